@@ -15,7 +15,7 @@ from .support.explain_case import EXPLAIN, ExplainCase, places, rows, with_expla
 from .support.explained import (
     CONSTANT, OF_ONE, OF_UNWRAP, REASONED, SHOWN, TEXTS, Asked, expected, explained)
 from .support.leaks import leaks, leaks_of_batch
-from .support.program import ROOT, Ended, Limits, spoken
+from .support.program import COMMANDS, ROOT, Ended, Limits, spoken
 from .support.quick import QuickRuns
 from .support.shown import ended as shown_ended
 from .test_batch import KINDS, WRONG
@@ -34,6 +34,7 @@ FAULT = re.compile(r'^\.B "(.*)"$', re.M)
 PARTS = {r"^[A-Z]+: \.\.$": "[A-Z]+: .*", r"\.\.": ".*", r"\bNAME\b": "[A-Z]+",
          r"\b[NI]\b": "[0-9]+"}
 LOST = "output: a write failed; wanted: a device with room, or a reader"
+NAME_OF_FILE = ", a file of that name is there: "
 # Bytes that no key, PIN or number has, and no three of which stand in an explanation.
 NO_DIGITS = "GHJQXZ"
 
@@ -273,9 +274,11 @@ class Secrets(ExplainCase):
         return ended.faults
 
     def test_rows_and_their_secrets(self) -> None:
-        """No written row has a secret of its command in its explanation."""
+        """No written row has a secret of its command in its explanation, but as the name of a file."""
         for words, fault, line in rows():
             if words[0] in everyday_words.COMMANDS and words[1] not in ("log", "journal"):
+                line, _, name = line.partition(NAME_OF_FILE)
+                self.assertTrue(not name or (COMMANDS / name[1:].split(";")[0]).is_file(), spoken(words))
                 ended = Ended(1, b"", f"{fault}\n{line}\n".encode())
                 self.assertEqual(leaks(Case(words), ended), [], spoken(words))
 
@@ -349,7 +352,13 @@ class Items(ExplainCase):
 
     def test_faults_before_items(self) -> None:
         self.explained(["derive", "@missing", "-"], "BDK: cannot read",
-                       "BDK: no such file; wanted: a file that can be read", given=b"x\n")
+                       "BDK @missing: no such file; wanted: a file that can be read", given=b"x\n")
+
+    def test_names_of_files(self) -> None:
+        """No file is asked, so none is told whose name an item is."""
+        for batch, _, _ in KINDS:
+            self.write("it", b"it")
+            self.assertNotIn(NAME_OF_FILE.encode(), self.check(batch, b"it").output)
 
 
 class Lost(ExplainCase):

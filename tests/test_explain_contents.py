@@ -40,14 +40,14 @@ def first_counted(numbers: Sequence[int]) -> Optional[int]:
 
 
 def strange(form: Records, image: bytes, called: str, wanted: str) -> Optional[str]:
-    """What is told of a file that is empty, or whose whole records no log or journal leaves."""
+    """What is told of the file `it` that is empty, or whose whole records no log or journal leaves."""
     if not image:
         maker = "new-log" if form is left_files.LOG else "new-journal"
-        return f"{called}: empty; wanted: {wanted}; make it by dukpt {maker} FILE RECORDS"
+        return f"{called} it: empty; wanted: {wanted}; make it by dukpt {maker} FILE RECORDS"
     record_ = None if len(image) % form.size else form.foreign(image)
     if record_ is None:
         return None
-    return f"no {called}: record {record_} is neither open nor zero; wanted: {wanted}"
+    return f"no {called} it: record {record_} is neither open nor zero; wanted: {wanted}"
 
 
 class Logs(ExplainCase):
@@ -63,7 +63,7 @@ class Logs(ExplainCase):
             ([*ISSUE, "it"], "ledger: damaged", "ledger", NUMBERS, "numbers that no ledger has"),
         ):
             self.explained(words, fault, strange(left_files.LOG, image, called, wanted)
-                           or f"{called}: {record_ or none}; wanted: {wanted}")
+                           or f"{called} it: {record_ or none}; wanted: {wanted}")
         self.assertEqual((self.home / "it").read_bytes(), image, name)
 
     def test_spoiled(self) -> None:
@@ -105,7 +105,7 @@ class Logs(ExplainCase):
                      "numbers that no ledger has"),
                 ):
                     ended = self.run_with([*words, EXPLAIN], seconds=20)
-                    line = f"{fault}\n{called}: {none}; wanted: {wanted}\n".encode()
+                    line = f"{fault}\n{called} {name}: {none}; wanted: {wanted}\n".encode()
                     self.assert_ended(ended, 1, b"", line, spoken(words))
 
     def test_far_behind(self) -> None:
@@ -128,7 +128,7 @@ class Logs(ExplainCase):
             for name, (numbers, place) in cases.items():
                 self.write("it", log_image(bytes_of(numbers), 5))
                 ended = self.run_with([*words, EXPLAIN])
-                line = f"{fault}\n{called}: record {place}; wanted: {wanted}\n".encode()
+                line = f"{fault}\n{called} it: record {place}; wanted: {wanted}\n".encode()
                 self.assert_ended(ended, 1, b"", line, name)
 
     def test_numbers_before_damage(self) -> None:
@@ -152,7 +152,7 @@ class Logs(ExplainCase):
             ):
                 if place is None:
                     continue
-                line = f"{fault}\n{called}: record {place}; wanted: {wanted}\n".encode()
+                line = f"{fault}\n{called} it: record {place}; wanted: {wanted}\n".encode()
                 self.assert_ended(self.run_with([*words, EXPLAIN]), 1, b"", line, str(numbers))
 
     def test_writes_that_fail(self) -> None:
@@ -162,12 +162,12 @@ class Logs(ExplainCase):
             limits = Limits(file_size=room)
             frames = b"".join(it.frame for it in payments(3))
             ended = self.run_with(["serve", "bank.toml", "--log", "it", EXPLAIN], frames, limits=limits)
-            line = f"log: wrong records, or a step that failed; wanted: {A_GOOD_LOG}"
+            line = f"log it: wrong records, or a step that failed; wanted: {A_GOOD_LOG}"
             answers = b"".join(it.answer for it in payments(3)[: room // RECORD])
             self.assert_ended(ended, 1, answers, f"log: failed\n{line}\n".encode(), f"{room} bytes")
             self.write("it", bytes(5 * RECORD))
             ended = self.run_with([*ISSUE[:4], "3", "--ledger", "it", EXPLAIN], limits=limits)
-            line = ("ledger: a step of its device failed; wanted: a device that works; the next number "
+            line = ("ledger it: a step of its device failed; wanted: a device that works; the next number "
                     "may stand in it")
             self.assertEqual((ended.status, ended.faults), (1, f"ledger: failed\n{line}\n".encode()))
             self.assertEqual(ended.output.count(b"\n"), room // RECORD)
@@ -181,7 +181,7 @@ class Logs(ExplainCase):
         line = (f"IKSN: {second} stands in the ledger; wanted: numbers that do not; --skip-issued "
                 "passes over them")
         self.explained([*ISSUE[:4], "3", "--ledger", "it"], f"{second}: issued", line)
-        line = "ledger: too little room; wanted: 16 bytes of zeros for each number"
+        line = "ledger it: too little room; wanted: 16 bytes of zeros for each number"
         words = [*ISSUE[:4], "3", "--ledger", "it", "--skip-issued"]
         self.explained(words, "ledger: full", line)
         self.assertEqual((self.home / "it").read_bytes(), image)
@@ -204,7 +204,7 @@ class Journals(ExplainCase):
     """Of a damaged journal only `show journal` tells the record; a service and a copy tell that there is
     damage, or that a step failed."""
 
-    line = f"journal: wrong records, or a step that failed; wanted: {A_GOOD_JOURNAL}"
+    line = f"journal it: wrong records, or a step that failed; wanted: {A_GOOD_JOURNAL}"
 
     def failed(self, image: bytes, what: str) -> None:
         """That each command over it tells so, and changes nothing."""
@@ -215,7 +215,7 @@ class Journals(ExplainCase):
             self.explained(words, "journal: failed", line)
         fault = journal_ended(image).faults.decode()[:-1]
         self.assertRegex(fault, r"journal refused at \d+: Damaged")
-        self.explained(["show", "journal", "it"], fault, explained(Asked("show"), fault))
+        self.explained(["show", "journal", "it"], fault, explained(Asked("show"), fault, Facts(path="it")))
         self.assertEqual((self.home / "it").read_bytes(), image, what)
         self.assertFalse((self.home / "new").exists(), what)
 
@@ -253,7 +253,7 @@ class Configurations(ExplainCase):
         """A configuration with this fault, of which this line is told, or none."""
         self.assertEqual(line_of(config, f"config: {key}"), line, config)
         self.write("it.toml", config)
-        told = explained(Asked("run"), f"config: {key}", Facts(place=line))
+        told = explained(Asked("run"), f"config: {key}", Facts(place=line, path="it.toml"))
         self.explained(["run", "it.toml", SCRIPT], f"config: {key}", told)
         self.explained(["serve", "it.toml", "--log", "missing"], f"config: {key}", told)
 
@@ -288,7 +288,7 @@ class Configurations(ExplainCase):
         """What is no TOML, of which this line is told."""
         self.write("it.toml", config)
         for words in (["run", "it.toml", SCRIPT], ["serve", "it.toml", "--log", "missing"]):
-            self.explained(words, "config: not TOML", f"CONFIG: line {line}; wanted: TOML in UTF-8")
+            self.explained(words, "config: not TOML", f"CONFIG it.toml: line {line}; wanted: TOML in UTF-8")
 
     def test_not_toml(self) -> None:
         """The line at which reading stops: of what is no UTF-8 that of the first byte that is not."""
@@ -326,7 +326,7 @@ class Configurations(ExplainCase):
         """A configuration that is TOML when it is read once more: no line is told."""
         ended = self.run_with(["run", "/dev/stdin", SCRIPT, EXPLAIN], b"lmk = \n")
         self.assertEqual((ended.status, ended.output), (1, b""))
-        self.assertIn(ended.faults, {f"config: not TOML\nCONFIG: {it}; wanted: TOML in UTF-8\n".encode()
+        self.assertIn(ended.faults, {f"config: not TOML\nCONFIG /dev/stdin: {it}; wanted: TOML in UTF-8\n".encode()
                                      for it in ("other text", "line 1")})
 
     def test_many_entries(self) -> None:
@@ -339,8 +339,8 @@ class Configurations(ExplainCase):
         """A configuration that comes once, as by a pipe: its line is told, or that there is none. The run
         ends as it does without `--explain`."""
         config = BANK.replace(b"log = 100", b"log = 0")
-        wanted = {f"config: bad log\nCONFIG: {it}; wanted: 1 to 100000\n".encode()
-                  for it in ("line 5", "the line was not found")}
+        wanted = {f"config: bad log\nCONFIG {name}: {it}; wanted: 1 to 100000\n".encode()
+                  for it in ("line 5", "the line was not found") for name in ("/dev/stdin", "pipe")}
         ended = self.run_with(["run", "/dev/stdin", SCRIPT, EXPLAIN], config)
         self.assertEqual((ended.status, ended.output), (1, b""))
         self.assertIn(ended.faults, wanted)
@@ -355,5 +355,5 @@ class Configurations(ExplainCase):
     def test_scripts(self) -> None:
         for script, line in ((b"up 01\n", 1), (b"# up\n\nup 1\nup\n", 4), (b"\n" * 99 + b" ", 100)):
             self.write("it.script", script)
-            wanted = f"SCRIPT: line {line}; wanted: an event, a comment after # or an empty line"
+            wanted = f"SCRIPT it.script: line {line}; wanted: an event, a comment after # or an empty line"
             self.explained(["run", "bank.toml", "it.script"], f"line {line}: not an event", wanted)

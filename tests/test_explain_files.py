@@ -12,11 +12,11 @@ from typing import Sequence
 
 from .support.bank import BANK, LONGEST
 from .support.client import payments
-from .support.everyday_rows import BASE, SERIAL
+from .support.everyday_rows import BASE, RIGHT, SERIAL
 from .support.explain_case import EXPLAIN, ISSUE, SCRIPT, WITHOUT_RIGHTS, ExplainCase
 from .support.explained import (
-    A_FOLDER, A_JOURNAL, A_LOG, A_NEW_FILE, IN_USE, MISSING, NO_FOLDER, NO_PERMISSION, OTHER, READABLE,
-    THERE)
+    A_FOLDER, A_JOURNAL, A_LOG, A_NEW_FILE, IN_USE, MISSING, MOST_PATH, NO_FOLDER, NO_PERMISSION, OTHER,
+    READABLE, READ_BEFORE, THERE, told_path)
 from .support.little_memory import AMPLE, OUT_OF_MEMORY, least_to_start
 from .support.log_file import RECORD, log_image, record
 from .support.model_journal import payments_of_all
@@ -25,6 +25,7 @@ from .support.page_journals import journal_of
 from .support.program import Ended, Limits, spoken
 from .support.service import Service
 from .support.small_files import PAGE, SmallFiles
+from .test_everyday_references import names_of, secrets_of
 
 # Commands over a file whose name stands behind them, with the fault where it is not opened or read, and
 # what the explanation calls it.
@@ -39,6 +40,11 @@ LOCKERS = ((["serve", "bank.toml", "--log"], "log: cannot open", "log", A_LOG),
            (ISSUE, "ledger: cannot open", "ledger", A_LOG))
 
 
+def at_fault(called: str, path: str) -> str:
+    """What is at fault, with its path, which is not told where it is empty or long."""
+    return f"{called} {told_path(path)}" if path and told_path(path) else called
+
+
 def reader_words(words: list[str], name: str) -> list[str]:
     """`run` has a script behind its configuration."""
     return [*words, name, SCRIPT] if words == ["run"] else [*words, name]
@@ -50,15 +56,16 @@ class Refused(ExplainCase):
     def refused(self, name: str, reason: str, front: Sequence[str] = ()) -> None:
         """A file to be read."""
         for words, fault, called in READERS:
-            line = f"{called}: {reason}; wanted: {READABLE}"
+            line = f"{at_fault(called, name)}: {reason}; wanted: {READABLE}"
             self.explained(reader_words(words, name), fault, line, front=front)
-        line = f"BDK: {reason}; wanted: {READABLE}"
+        about = at_fault("BDK", f"@{name}" if name else "")
+        line = f"{about}: {reason}; wanted: {READABLE}"
         self.explained(["derive", f"@{name}", SERIAL], "BDK: cannot read", line, front=front)
 
     def refused_lock(self, name: str, reason: str, front: Sequence[str] = ()) -> None:
         """A file to be opened and locked."""
         for words, fault, called, wanted in LOCKERS:
-            line = f"{called}: {reason}; wanted: {wanted}"
+            line = f"{at_fault(called, name)}: {reason}; wanted: {wanted}"
             self.explained([*words, name], fault, line, front=front)
 
     def test_reasons(self) -> None:
@@ -66,9 +73,16 @@ class Refused(ExplainCase):
         (self.home / "gone").symlink_to("nowhere")
         for name, reason in (("missing", MISSING), ("", MISSING), ("gone", MISSING), ("logs", A_FOLDER),
                              (".", A_FOLDER), ("/", A_FOLDER), ("missing/it", MISSING), ("loop", OTHER),
-                             ("bank.toml/it", OTHER), ("x" * 300, OTHER)):
+                             ("bank.toml/it", OTHER), ("x" * 300, OTHER), ("x" * 3000, OTHER)):
             self.refused(name, reason)
             self.refused_lock(name, reason)
+
+    def test_paths(self) -> None:
+        """Each stands as it is, but for control characters and what is too long."""
+        for name in ("a b", "\u00e9", "\u20ac", "\U0001f511", "a\nb: c", "\x01\x1b[2J\x7f", "\x80\x9b",
+                     "\\x0A", "\u00a0", "./" * (MOST_PATH // 2 - 1) + "it", "./" * (MOST_PATH // 2) + "it"):
+            self.refused(name, MISSING)
+            self.refused_lock(name, MISSING)
 
     def test_a_read_that_fails(self) -> None:
         """It can be opened."""
@@ -132,50 +146,63 @@ class Refused(ExplainCase):
     def test_references(self) -> None:
         """Of several references the one is explained that could not be read."""
         self.write("it", BASE.encode())
-        for words, fault, reason in (
-            (["kcv", "@it", "@missing"], "KEY: cannot read", MISSING),
-            (["kcv", "@it", "@logs", "@missing"], "KEY: cannot read", A_FOLDER),
-            (["kcv", BASE, "@it", "@missing", "@logs"], "KEY: cannot read", MISSING),
-            (["kcv", "@-", "@-"], "KEY: cannot read", "standard input, read before"),
-            (["kcv", "@-", "@missing"], "KEY: cannot read", MISSING),
-            (["kcv", "@-", "@it", "@-"], "KEY: cannot read", "standard input, read before"),
-            (["pin", "@it", "4012345678909", "--key", "@missing"], "KEY: cannot read", MISSING),
-            (["wrap", "@it", "x", "@logs", "x"], "KEY: cannot read", A_FOLDER),
-            (["translate", "@it", "@it", "@-", "x", "@-"], "ZONE: cannot read",
-             "standard input, read before"),
-            ([*ISSUE[:2], "@missing", *ISSUE[3:], "x"], "LOADING: cannot read", MISSING),
-            (["show", "image", "@missing"], "WHAT: cannot read", MISSING),
+        for words, about, reason in (
+            (["kcv", "@missing"], "KEY @missing", MISSING),
+            (["kcv", "@it", "@missing"], "KEY 2 @missing", MISSING),
+            (["kcv", "@it", "@logs", "@missing"], "KEY 2 @logs", A_FOLDER),
+            (["kcv", BASE, "@it", "@missing", "@logs"], "KEY 3 @missing", MISSING),
+            (["kcv", "@-", "@-"], "KEY 2 @-", READ_BEFORE),
+            (["kcv", "@-", "@missing"], "KEY 2 @missing", MISSING),
+            (["kcv", "@-", "@it", "@/dev/stdin"], "KEY 3 @/dev/stdin", READ_BEFORE),
+            (["pin", "@it", "4012345678909", "--key", "@missing"], "KEY @missing", MISSING),
+            (["wrap", "@it", "x", "@logs", "x"], "KEY @logs", A_FOLDER),
+            (["translate", "@it", "@it", "@-", "x", "@-"], "ZONE @-", READ_BEFORE),
+            ([*ISSUE[:2], "@missing", *ISSUE[3:], "x"], "LOADING @missing", MISSING),
+            (["show", "image", "@missing"], "WHAT @missing", MISSING),
         ):
-            name = fault.split(":")[0]
-            self.explained(words, fault, f"{name}: {reason}; wanted: {READABLE}", given=BASE.encode())
+            fault = f"{about.split()[0]}: cannot read"
+            self.explained(words, fault, f"{about}: {reason}; wanted: {READABLE}", given=BASE.encode())
 
     def test_an_input_that_cannot_be_read(self) -> None:
         folder = os.open(self.home, os.O_RDONLY)
         self.addCleanup(os.close, folder)
-        line = f"BDK: {OTHER}; wanted: {READABLE}"
+        line = f"BDK @-: {OTHER}; wanted: {READABLE}"
         self.explained(["derive", "@-", SERIAL], "BDK: cannot read", line, given=folder)
 
     def test_references_that_are_refused(self) -> None:
+        """Of several the first that is so when it is read once more; or else the first that is not."""
+        self.write("it", BASE.encode())
+        self.write("end", b"0" * 4096 + b"\r\n")
         self.write("long", b"0" * 4097)
         self.write("bytes", b"\xff")
+        self.write("large", b"0" * (LONGEST + 1))
         for name, fault, rest in (("long", "too long", "a longer line; wanted: at most 4096 bytes"),
+                                  ("large", "too long", "a longer line; wanted: at most 4096 bytes"),
                                   ("bytes", "not UTF-8", "other bytes; wanted: a line of UTF-8")):
-            for words, called in ((["kcv", BASE, f"@{name}"], "KEY"),
-                                  (["pin", "1234", f"@{name}"], "PAN"),
-                                  (["show", "frame", f"@{name}"], "WHAT")):
-                self.explained(words, f"{called}: {fault}", f"{called}: {rest}")
+            for words, called in (
+                (["kcv", f"@{name}"], "KEY"),
+                (["kcv", BASE, f"@{name}", "@missing", f"@{name}"], "KEY 2"),
+                (["kcv", "@it", "@end", f"@{name}", "@missing"], "KEY 3"),
+                (["pin", "1234", f"@{name}"], "PAN"),
+                (["show", "frame", f"@{name}"], "WHAT"),
+            ):
+                self.explained(words, f"{called.split()[0]}: {fault}", f"{called} @{name}: {rest}")
+            given = (self.home / name).read_bytes()
+            self.explained(["kcv", "@it", "@-", "@missing"], f"KEY: {fault}", f"KEY 2 @-: {rest}", given=given)
+        self.explained(["derive", "@/dev/zero", SERIAL], "BDK: too long",
+                       "BDK @/dev/zero: a longer line; wanted: at most 4096 bytes")
 
     def test_long_files(self) -> None:
         self.write("long", b"#" * (LONGEST + 1))
         for words, fault, line in (
             (["run", "long", SCRIPT], "config: too long",
-             "CONFIG: a longer file; wanted: at most 1048576 bytes"),
+             "CONFIG long: a longer file; wanted: at most 1048576 bytes"),
             (["run", "bank.toml", "long"], "script: too long",
-             "SCRIPT: a longer file; wanted: at most 1048576 bytes"),
+             "SCRIPT long: a longer file; wanted: at most 1048576 bytes"),
             (["show", "log", "/dev/zero"], "log: too long",
-             "WHAT: a longer file; wanted: at most 1073741824 bytes"),
+             "WHAT /dev/zero: a longer file; wanted: at most 1073741824 bytes"),
             (["show", "journal", "/dev/zero"], "journal: too long",
-             "WHAT: a longer file; wanted: at most 1073741824 bytes"),
+             "WHAT /dev/zero: a longer file; wanted: at most 1073741824 bytes"),
         ):
             self.explained(words, fault, line)
 
@@ -188,6 +215,68 @@ class Refused(ExplainCase):
                      f'{way} && exec "$@"', "sh"]
             line = f"/dev/urandom: {reason}; wanted: a device that can be read"
             self.explained([*ISSUE, "ledger"], "padding: cannot read", line, front=front)
+
+
+class Names(ExplainCase):
+    """Arguments that may be references, and are the names of files: the `@` before them was forgotten."""
+
+    def told_of(self, words: Sequence[str], front: Sequence[str] = ()) -> str:
+        """The line that explains the fault of these words."""
+        ended = self.run_with([EXPLAIN, *words], front=front)
+        self.assertEqual((ended.status, ended.output, ended.faults.count(b"\n")), (1, b"", 2), spoken(words))
+        return ended.faults.decode().splitlines()[1]
+
+    def test_each_argument(self) -> None:
+        """Where there is such a file it is told of each that may be a reference, and of no other."""
+        count = 0
+        for command, right in RIGHT.items():
+            secrets = secrets_of(command)
+            for at, name in names_of(command):
+                words = [EXPLAIN, *right[:at], "it", *right[at + 1 :]]
+                self.write("it", b"it")
+                there = self.run_with(words)
+                (self.home / "it").unlink()
+                missing = self.run_with(words)
+                if (at, name) in secrets:
+                    told = rf"\A(.*\n{name}(?: \d)?: 2 bytes), a file of that name is there: @it(; wanted: .*\n)\Z"
+                    self.assertRegex(there.faults.decode(), told, spoken(words))
+                    before, behind = re.findall(told, there.faults.decode())[0]
+                    self.assertRegex(missing.faults.decode(), rf"\A{before}(, wrong at \d)?{behind}\Z")
+                    count += 1
+                else:
+                    self.assertEqual(there, missing, spoken(words))
+        self.tells(f"{count} arguments")
+
+    def test_names(self) -> None:
+        """Of what can be read, or may be waited for; control characters stand as in other paths."""
+        (self.home / "folder").mkdir()
+        os.mkfifo(self.home / "pipe")
+        for name in ("a b", "\u00e9", "a\nb: c", "\x01\x1b[2J\x7f", "\x9b", "folder/it", "./it"):
+            self.write(name, b"")
+        for name in ("a b", "\u00e9", "a\nb: c", "\x01\x1b[2J\x7f", "\x9b", "folder/it", "./it", "pipe",
+                     "/dev/null", str(self.home / "it"), "./" * (MOST_PATH // 2 - 1) + "it"):
+            line = f"BDK: {len(name.encode())} bytes, a file of that name is there: @{told_path(name)}; wanted: "
+            self.assertTrue(self.told_of(["derive", name, SERIAL]).startswith(line), name)
+
+    def test_what_is_none(self) -> None:
+        """What is no file, or cannot be read, stands behind `@` for standard input, or is too long."""
+        self.write("-", b"")
+        self.write("it", b"")
+        (self.home / "closed").write_bytes(b"")
+        (self.home / "closed").chmod(0)
+        (self.home / "gone").symlink_to("nowhere")
+        front = WITHOUT_RIGHTS if os.geteuid() == 0 else ()
+        for name in ("-x", "logs", "/", "missing", "gone", "closed", "", "./" * (MOST_PATH // 2) + "it"):
+            self.assertNotIn("file of that name", self.told_of(["derive", "--", name, SERIAL], front), name)
+        self.assertNotIn("file of that name", self.told_of(["derive", "-", SERIAL]))
+
+    def test_what_a_reference_holds(self) -> None:
+        """It is a text as any other one."""
+        self.write("it", b"other\n")
+        self.write("other", b"")
+        for text in ("@it", "other"):
+            self.assertEqual(self.told_of(["derive", text, SERIAL]), "BDK: 5 bytes, a file of that name is "
+                             "there: @other; wanted: 32 hexadecimal digits")
 
 
 class Makers(ExplainCase):
@@ -209,7 +298,7 @@ class Makers(ExplainCase):
         return {os.fspath(it.relative_to(self.home)): about(it) for it in self.home.rglob("*")}
 
     def not_made(self, name: str, reason: str, front: Sequence[str] = (), **how: object) -> None:
-        line = f"journal: {reason}; wanted: {A_NEW_FILE}"
+        line = f"{at_fault('journal', name)}: {reason}; wanted: {A_NEW_FILE}"
         for words in (["new-journal", name, "3"], ["copy-journal", "journal", name]):
             before = self.state()
             self.explained(words, "journal: cannot make", line, front=front, **how)
@@ -244,7 +333,8 @@ class Makers(ExplainCase):
         new = os.fspath(small.folder / "new")
         for words in (["new-journal", new, str(2 * PAGE // JOURNAL_RECORD)],
                       ["copy-journal", "journal", new]):
-            self.explained(words, "journal: cannot make", f"journal: {OTHER}; wanted: {A_NEW_FILE}")
+            line = f"journal {new}: {OTHER}; wanted: {A_NEW_FILE}"
+            self.explained(words, "journal: cannot make", line)
             self.assertEqual(([*small.folder.iterdir()], small.free()), ([], 1), spoken(words))
 
     def test_calls(self) -> None:
@@ -361,4 +451,4 @@ class Memory(ExplainCase):
 
     def without_its_line(self, ended: Ended) -> bytes:
         """What is told where the configuration could not be read once more."""
-        return re.sub(rb"(?m)^CONFIG: line \d+;", b"CONFIG: the line was not found;", ended.faults)
+        return re.sub(rb"(?m)^(CONFIG \S+): line \d+;", rb"\1: the line was not found;", ended.faults)

@@ -123,7 +123,7 @@ class Others(ProgramCase):
                     served += 1
                 else:
                     self.assertEqual(self.path.read_bytes(), image)
-                    told = f"{line}\nno {name}: record {place} is neither open nor zero; wanted: "
+                    told = f"{line}\nno {name} file: record {place} is neither open nor zero; wanted: "
                     self.assertEqual(ended.status, 1, image.hex())
                     self.assertTrue(ended.faults.decode().startswith(told), f"{ended} {image.hex()}")
                     refused += 1
@@ -148,11 +148,11 @@ class Others(ProgramCase):
             making = "new-journal" if form is JOURNAL else "new-log"
             ended = self.run_on(words, b"", EXPLAIN)
             told = ended.faults.decode()
-            self.assertTrue(told.startswith(f"{line}\n{name}: empty; wanted: "), told)
+            self.assertTrue(told.startswith(f"{line}\n{name} file: empty; wanted: "), told)
             self.assertTrue(told.endswith(f"; make it by dukpt {making} FILE RECORDS\n"), told)
             ended = self.run_on(words, whole(BANK, form.size), EXPLAIN)
             place = form.foreign(whole(BANK, form.size))
-            told = f"{line}\nno {name}: record {place} is neither open nor zero; wanted: "
+            told = f"{line}\nno {name} file: record {place} is neither open nor zero; wanted: "
             self.assertTrue(ended.faults.decode().startswith(told), str(ended))
 
     def test_what_a_stop_may_leave(self) -> None:

@@ -18,13 +18,9 @@ CRATES = ROOT / "crates"
 MAKERS = {
     "duk_play/src/session.rt write_done": "writes the lines of the events before the refusal",
     "duk_script/src/session.rt write_done": "writes the lines of the events before the refusal",
-    "duk_program/src/run.rt refuse_memory": "reports the refusal",
 }
 # Where the fault is made for another reason.
 ALLOWED = {
-    "duk_explain/src/tables.rt NAMES": "what is explained of each line",
-    "duk_explain/src/tables.rt WORDS": "what is told of each line",
-    "duk_explain/src/tables.rt WANTED": "what is wanted after each line",
     "dukpt_player/src/run.rt tell": "lines that are kept in memory are not written where it is refused, and"
                                     " the kit's `format!` fails for nothing else",
 }
@@ -48,7 +44,7 @@ PLANTED = (
      "if error.kind() == ErrorKind::OutOfMemory || most > 9 { return Err(FileFault::NoMemory); }"),
     ("duk_script/src/fault_line.rt", "print_fault",
      'if why.line() == 7 { report(fault, b"out of memory\\n"); }'),
-    ("duk_program/src/run.rt", "play", "if script.len() == 4242 { return refuse_memory(output, fault); }"),
+    ("duk_program/src/run.rt", "play", "if script.len() == 4242 { return Err(ScriptFault::NoMemory); }"),
 )
 RIGHT = (
     ("duk_line/src/host.rt", "restart",

@@ -1,5 +1,5 @@
 """What `--explain` adds to the line of a fault: a line more, of the arguments as they were read, of the
-fault's line, and of what the system says of a file.
+fault, and of what the system says of a file.
 
 `expected` is the whole of a run of the commands over keys and PINs; of the others `explained` has the
 line, where a test says what is known of their files.
@@ -7,12 +7,14 @@ line, where a test says what is known of their files.
 from __future__ import annotations
 
 import re
-from dataclasses import dataclass, field
+import unicodedata
+from dataclasses import dataclass, field, replace
 from typing import Mapping, Optional, Sequence
 
 from . import everyday_words
 from .commands import MOST_COUNT, Refused
-from .everyday_words import COMMANDS, INPUTS, Files, Given, References, resolve
+from .everyday_words import (
+    COMMANDS, INPUTS, Files, Given, References, first_line, is_secret, resolve)
 from .issuing import numbers_left
 from .program import Ended
 from .shown import log_numbers
@@ -36,15 +38,20 @@ A_JOURNAL = "a journal, as new-journal makes one, that no other uses"
 A_NEW_FILE = "a name that no file has, in a folder with room"
 BEFORE_16 = "write FFFF before it"
 COUNTER_BITS = 21
+# A longer path is not told.
+MOST_PATH = 512
 
 
 @dataclass(frozen=True)
 class Facts:
-    """What is known of a file after a fault: why it is refused; and which record of a log, from 0, or
-    which line of a text, from 1, is at fault."""
+    """What is known of a file after a fault: why it is refused; which record of a log, from 0, or which
+    line of a text, from 1, is at fault; its path, or the reference to it; and of a reference among several
+    of one name which it is, from 1."""
 
     reason: str = OTHER
     place: Optional[int] = None
+    path: str = ""
+    number: Optional[int] = None
 
 
 @dataclass(frozen=True)
@@ -63,9 +70,18 @@ class Explanation:
     found: str
     wanted: str
     way: str = ""
+    path: str = ""
 
     def __str__(self) -> str:
-        return f"{self.name}: {self.found}; wanted: {self.wanted}" + (f"; {self.way}" if self.way else "")
+        about = f"{self.name} {told_path(self.path)}".rstrip(" ") if self.path else self.name
+        return f"{about}: {self.found}; wanted: {self.wanted}" + (f"; {self.way}" if self.way else "")
+
+
+def told_path(path: str) -> str:
+    """A path as it is told: control characters as `\\x` and two digits, and nothing of a long one."""
+    if len(path.removeprefix("@").encode()) > MOST_PATH:
+        return ""
+    return "".join(f"\\x{ord(it):02X}" if unicodedata.category(it) == "Cc" else it for it in path)
 
 
 # What is found of a text
@@ -323,8 +339,11 @@ def of_file(fault: str, facts: Facts) -> Optional[Explanation]:
 # A secret that is a reference
 
 
+OF_REFERENCE = re.compile("([A-Z]+): (cannot read|too long|not UTF-8)")
+
+
 def of_reference(fault: str, facts: Facts) -> Optional[Explanation]:
-    found = re.fullmatch("([A-Z]+): (cannot read|too long|not UTF-8)", fault)
+    found = OF_REFERENCE.fullmatch(fault)
     if not found:
         return None
     name, why = found.groups()
@@ -444,15 +463,51 @@ def explained(asked: Asked, fault: str, facts: Facts = Facts()) -> str:
              or (of_this and of_this(asked)))
     if not found:
         raise ValueError(f"there is no such fault: {fault}")
-    return str(found)
+    name = found.name if facts.number is None else f"{found.name} {facts.number}"
+    return str(replace(found, name=name, path=facts.path))
 
 
-class Traced(References):
-    """References, of which the one that was looked at last is known."""
+def secret_words(name: str, given: Given) -> list[tuple[str, str]]:
+    """The arguments that may be references, each with its name, in the order in which they are read."""
+    command = COMMANDS[name]
+    words = [(command.values[0 if command.is_many else at], word) for at, word in enumerate(given.values)]
+    words += [(called, given.valued[option]) for option, called in command.valued.items()
+              if option in given.valued]
+    return [(called, word) for called, word in words if is_secret(name, called)]
 
-    def text(self, name: str, word: str) -> str:
-        self.facts = Facts(READ_BEFORE if word in INPUTS and self.given is None else MISSING)
-        return super().text(name, word)
+
+def fault_of_file(data: Optional[bytes]) -> str:
+    """Why the first line of a file is not read, or nothing."""
+    if data is None:
+        return "cannot read"
+    try:
+        first_line("", data)
+    except Refused as why:
+        return str(why).removeprefix(": ")
+    return ""
+
+
+def facts_of_reference(name: str, given: Given, files: Files, fault: str) -> Facts:
+    """What is known of the reference of which a fault tells: the first that is not read so, as it is seen
+    once more; or else the first of standard input, which is read once."""
+    told = OF_REFERENCE.fullmatch(fault)
+    if not told:
+        return Facts()
+    called, why = told.groups()
+    secrets, is_read, unseen = secret_words(name, given), False, None
+    is_one_of_many = COMMANDS[name].is_many and len(secrets) > 1
+    for number, (other, word) in enumerate(secrets, 1):
+        facts = Facts(MISSING, path=word, number=number if is_one_of_many else None)
+        if other != called or not word.startswith("@"):
+            pass
+        elif word in INPUTS and not is_read:
+            unseen = unseen or replace(facts, reason=OTHER)
+        elif word in INPUTS and why == "cannot read":
+            return replace(facts, reason=READ_BEFORE)
+        elif word not in INPUTS and fault_of_file(files.get(word[1:])) == why:
+            return facts
+        is_read = is_read or word in INPUTS
+    return unseen or Facts()
 
 
 def asked_by(name: str, given: Given) -> Asked:
@@ -469,12 +524,13 @@ def expected(words: Sequence[str], files: Optional[Files] = None, given: bytes =
     ended = everyday_words.expected(words, files, given)
     if ended.status != 1:
         return ended
-    said, references = everyday_words.read(words[1:], COMMANDS[words[0]]), Traced(files or {}, given)
-    references.facts = Facts()
+    name, fault = words[0], ended.faults.decode()[:-1]
+    said = everyday_words.read(words[1:], COMMANDS[name])
+    facts = facts_of_reference(name, said, files or {}, fault)
     try:
-        resolve(words[0], COMMANDS[words[0]], said, references)
+        resolve(name, COMMANDS[name], said, References(files or {}, given))
     except Refused:
         # Its line is that of the run.
         pass
-    line = explained(asked_by(words[0], said), ended.faults.decode()[:-1], references.facts)
+    line = explained(asked_by(name, said), fault, facts)
     return Ended(1, ended.output, ended.faults + f"{line}\n".encode())

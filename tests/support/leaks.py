@@ -92,11 +92,12 @@ def refused_words(words: list[str]) -> set[str]:
 
 
 def given_secrets(name: str, given: Given) -> set[str]:
+    """Secrets among the arguments. A reference is a path, which may be told."""
     command = COMMANDS[name]
     found = {word for at, word in enumerate(given.values)
              if is_secret(name, command.values[0 if command.is_many else at])}
-    return found | {word for option, word in given.valued.items()
-                    if is_secret(name, command.valued[option])}
+    found |= {word for option, word in given.valued.items() if is_secret(name, command.valued[option])}
+    return {word for word in found if not word.startswith("@")}
 
 
 def made_secrets(name: str, given: Given) -> set[str]:

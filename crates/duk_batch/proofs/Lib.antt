@@ -1,5 +1,4 @@
 mod AnswersInTurn
-mod DerivedItems
 mod Endings
 mod GroupKeys
 mod KeptLine

@@ -1,12 +1,12 @@
 -- A command over the items that its input has, one a line (this project's own).
-use Rattle.std.specs.Prelude.{◌≡◌, ◌≢◌, ◌≤◌, ◌+◌, ◌-◌, ◌^◌, ◌⊎◌, ◌++◌, ℕ, List, [], Option, All, codes, length, take}
-use Rattle.std.specs.Io.KnownBytes.{Appends, Consumes, IsAtEnd}
+use Rattle.std.specs.Prelude.{◌≡◌, ◌≢◌, ◌≤◌, ◌+◌, ◌-◌, ◌^◌, ◌⊎◌, ◌++◌, ℕ, List, [], Option, All, codes, length}
+use Rattle.std.specs.Io.KnownBytes.{Consumes, IsAtEnd}
 use Rattle.std.specs.Str.Lines.{lines}
-use Rattle.duk_commands.specs.Answer.{Streams}
-use Rattle.duk_commands.specs.Fault.{line_end, report_line}
-use Rattle.duk_commands.specs.declared.fault.Fault.TheVariants.{WriteFailed}
-use Rattle.duk_io.specs.Known.{Known, Rose}
-use Rattle.duk_io.specs.Sink.{IsTried, IsUntouched, IsWritten}
+use Rattle.duk_batch.specs.declared.fault.BatchFault.{BatchFault}
+use Rattle.duk_batch.specs.declared.fault.BatchFault.TheVariants as fault
+use Rattle.duk_commands.specs.Fault.{line_end}
+use Rattle.duk_io.specs.Known.{Known}
+use Rattle.duk_io.specs.Sink.{IsCut, IsWritten}
 use Rattle.duk_io.specs.Source.{AreBytesRead, AreReadsMade, IsBroken}
 use Rattle.duk_batch.specs.Item.{AreAnswers, AreDone, ItemAnswer, ItemCommand, text_of}
 
@@ -55,30 +55,26 @@ pub record AreAllReads (input : Input) (bytes : List ℕ) : Type 0 where
 
 -- the input was read to its end, and the answers to its lines were written; these are the lines of
 -- `str::lines`: each ends with LF or CR LF, which the last may lack
-pub record IsAnswered (command : List ℕ → ItemCommand) (input : Input) (s : Streams)
+pub record IsAnswered (command : List ℕ → ItemCommand) (input : Input) (old new : Known)
     (answers : List ItemAnswer) : Type 0 where
   pub bytes : List ℕ
   pub read_up : IsReadToEnd input bytes
   pub answered : AreAnswers command (lines bytes) answers
-  pub written : IsWritten s.output_before s.output_after (text_of answers)
+  pub written : IsWritten old new (text_of answers)
 
--- status 0: the command is done for each line
-pub record IsBatchDone (command : List ℕ → ItemCommand) (input : Input) (s : Streams) : Type 0 where
+-- the command is done for each line
+pub record IsBatchDone (command : List ℕ → ItemCommand) (input : Input) (old new : Known)
+    : Type 0 where
   pub answers : List ItemAnswer
-  pub answered : IsAnswered command input s answers
+  pub answered : IsAnswered command input old new answers
   pub done : AreDone answers
-  pub no_fault : IsUntouched s.fault_before s.fault_after
 
--- the line that tells of refused items
-abbrev pub refused_line : List ℕ
-refused_line = codes "batch: items refused" ++ line_end
-
--- each line is answered, and one at least was refused, and that is reported
-pub record IsBatchRefused (command : List ℕ → ItemCommand) (input : Input) (s : Streams) : Type 0 where
+-- each line is answered, and one at least was refused
+pub record IsBatchRefused (command : List ℕ → ItemCommand) (input : Input) (old new : Known)
+    : Type 0 where
   pub answers : List ItemAnswer
-  pub answered : IsAnswered command input s answers
+  pub answered : IsAnswered command input old new answers
   pub refused : ¬ AreDone answers
-  pub line : IsTried s.fault_before s.fault_after refused_line
 
 -- the bytes are lines that have ended, and the front of one that has not
 pub record EndsWithin (bytes ended rest : List ℕ) : Type 0 where
@@ -86,13 +82,10 @@ pub record EndsWithin (bytes ended rest : List ℕ) : Type 0 where
   pub at_end : (ended ≡ []) ⊎ ((front : List ℕ) × (ended ≡ front ++ line_end))
   pub no_end : All (λ byte. byte ≢ 10) rest
 
--- the line of the fault of an input that cannot be read
-abbrev pub unread_line : List ℕ
-unread_line = codes "batch: read failed" ++ line_end
-
 -- a read failed, or as many were made as one batch makes; the lines that had ended before it were
--- answered, and that is reported
-pub record IsBatchUnread (command : List ℕ → ItemCommand) (input : Input) (s : Streams) : Type 0 where
+-- answered
+pub record IsBatchUnread (command : List ℕ → ItemCommand) (input : Input) (old new : Known)
+    : Type 0 where
   pub bytes : List ℕ
   pub ended : List ℕ
   pub rest : List ℕ
@@ -100,20 +93,11 @@ pub record IsBatchUnread (command : List ℕ → ItemCommand) (input : Input) (s
   pub cause : IsReadBroken input bytes ⊎ AreAllReads input bytes
   pub within : EndsWithin bytes ended rest
   pub answered : AreAnswers command (lines ended) answers
-  pub written : IsWritten s.output_before s.output_after (text_of answers)
-  pub line : IsTried s.fault_before s.fault_after unread_line
+  pub written : IsWritten old new (text_of answers)
 
--- so many bytes of the text were written, and then a write failed or took no byte; or all were, and
--- what was held back of them could not be handed on
-pub record IsWriteLost (old new : Known) (text : List ℕ) : Type 0 where
-  pub count : ℕ
-  pub within : count ≤ length text
-  pub bytes : Appends old.contents new.contents (take count text)
-  pub failed : Rose old.failures new.failures
-
--- a write failed: a front of the answers to the first lines of what was read was written, and that
--- is reported
-pub record IsBatchUnwritten (command : List ℕ → ItemCommand) (input : Input) (s : Streams) : Type 0 where
+-- a write failed: a front of the answers to the first lines of what was read was written
+pub record IsBatchUnwritten (command : List ℕ → ItemCommand) (input : Input) (old new : Known)
+    : Type 0 where
   pub bytes : List ℕ
   pub first : List (List ℕ)
   pub others : List (List ℕ)
@@ -121,12 +105,16 @@ pub record IsBatchUnwritten (command : List ℕ → ItemCommand) (input : Input)
   pub taken : Consumes input.before.contents input.after.contents bytes
   pub lines_are : lines bytes ≡ first ++ others
   pub answered : AreAnswers command first answers
-  pub lost : IsWriteLost s.output_before s.output_after (text_of answers)
-  pub line : IsTried s.fault_before s.fault_after (report_line WriteFailed)
+  pub cut : IsCut old new (text_of answers)
 
--- status 1: a line was refused, or a read or a write failed
-abbrev pub IsBatchNotDone : (List ℕ → ItemCommand) → Input → Streams → Type 0
-IsBatchNotDone command input s =
-    IsBatchRefused command input s
-    ⊎ IsBatchUnread command input s
-    ⊎ IsBatchUnwritten command input s
+-- why the command is not done for each line
+abbrev pub IsBatchNotDone : (List ℕ → ItemCommand) → Input → BatchFault → Known → Known → Type 0
+IsBatchNotDone command input fault.ItemsRefused old new = IsBatchRefused command input old new
+IsBatchNotDone command input fault.ReadFailed old new = IsBatchUnread command input old new
+IsBatchNotDone command input fault.WriteFailed old new = IsBatchUnwritten command input old new
+
+-- the line of a fault
+abbrev pub batch_line : BatchFault → List ℕ
+batch_line fault.ItemsRefused = codes "batch: items refused" ++ line_end
+batch_line fault.ReadFailed = codes "batch: read failed" ++ line_end
+batch_line fault.WriteFailed = codes "write failed" ++ line_end

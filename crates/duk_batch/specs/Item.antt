@@ -31,18 +31,19 @@ pub record HasFaultLine {F : Type 0} (refuses : F → Type 0) (line_of : F → L
   pub cause : refuses why
   pub line_is : line ≡ line_of why
 
--- what is made of an item, by its texts, its faults and their lines, which nothing explains
-abbrev pub item_command : {F : Type 0} → (List ℕ → Type 0) → (F → Type 0) → (F → List ℕ)
+-- what is made of an item, by its texts, its faults and their lines, which nothing explains where no
+-- explanation is asked for
+abbrev pub item_command : {F : Type 0} → Bool → (List ℕ → Type 0) → (F → Type 0) → (F → List ℕ)
     → ItemCommand
-item_command writes refuses line_of = record {
+item_command explained writes refuses line_of = record {
   writes = writes;
   refuses = HasFaultLine refuses line_of;
-  explains = λ line explanation. explanation ≡ [];
+  explains = λ line explanation. explained ≡ false → explanation ≡ [];
 }
 
 -- a command of which an item is an argument
-abbrev pub item_of_command : Command → ItemCommand
-item_of_command command = item_command command.writes command.refuses report_line
+abbrev pub item_of_command : Bool → Command → ItemCommand
+item_of_command explained command = item_command explained command.writes command.refuses report_line
 
 -- a command refuses an item with this line, which this explains
 pub record IsRefusal (command : ItemCommand) (why : Refused) : Type 0 where

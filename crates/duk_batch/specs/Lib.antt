@@ -1,4 +1,3 @@
 pub mod Item
 pub mod Batch
-pub mod Commands
 pub mod inner

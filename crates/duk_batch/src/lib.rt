@@ -4,14 +4,16 @@
 
 mod answer;
 mod batch;
-mod commands;
+mod derive;
+mod fault;
 mod group;
 mod item;
 mod items;
 mod kept;
 mod run;
 
-pub use commands::{DeriveItems, KcvItems, PanItems, PinItems};
+pub use derive::DeriveItems;
+pub use fault::BatchFault;
 pub use items::{Items, Refused};
 pub use kept::Kept;
 pub use run::do_batch;

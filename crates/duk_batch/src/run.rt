@@ -1,17 +1,13 @@
 //! A command over the lines of an input.
 
-ghost use Rattle.std.specs.Prelude.{◌≡◌, ◌⊎◌, true, false};
-ghost use Rattle.duk_commands.specs.Answer.{streams};
-ghost use Rattle.duk_commands.specs.Fault.{report_line};
-ghost use Rattle.duk_commands.specs.declared.fault.Fault.{Fault};
-ghost use Rattle.duk_io.specs.Sink.{IsHandedOn, IsTried, IsUntouched};
-ghost use Rattle.duk_batch.specs.Batch.{IsBatchDone, IsBatchNotDone, input_of, refused_line, unread_line};
-ghost use Rattle.duk_batch.specs.inner.Batch.{IsEnd, IsFlushReported, end_of};
+ghost use Rattle.std.specs.Prelude.{◌≡◌, IfErr, OnOk};
+ghost use Rattle.duk_batch.specs.Batch.{IsBatchDone, IsBatchNotDone, input_of};
+ghost use Rattle.duk_batch.specs.inner.Batch.{IsEnd, end_of};
 
 use crate::batch::Batch;
+use crate::fault::BatchFault;
 use crate::items::Items;
-use duk_commands::{Fault, Lines, push_end, push_text, report};
-use duk_io::{Sink, Source, WriteFailed, write_text};
+use duk_io::{Sink, Source, WriteFailed};
 use std::alloc::Global;
 
 /// How many bytes are read at a time, at most.
@@ -29,124 +25,32 @@ enum End {
 }
 
 /// Answers each line of the input, in turn, with the lines of its item, or with the line of the
-/// fault for which the item is refused, and gives the status: 0, or 1 where one was refused, with
-/// the line `batch: items refused` on `fault`.
+/// fault for which the item is refused.
 ///
 /// Lines end with LF or CR LF, which the last may lack. One that has more than 16,384 bytes, or is
 /// not UTF-8, is answered with `line refused`. The answers to what a read gave are written before
-/// the next read. The status is also 1, with a line on `fault`, where a read failed (`batch: read
-/// failed`), after the lines that had ended were answered, and where a write or the flush of the
-/// answers failed (`write failed`).
-pub fn do_batch<I: Items, R: Source, W: Sink, F: Sink>(
+/// the next read. The faults: `batch: items refused`, where one was; `batch: read failed`, after the
+/// lines that had ended were answered; `write failed`, where a write of the answers failed or took
+/// no byte.
+pub fn do_batch<I: Items, R: Source, W: Sink>(
     alloc: Global,
     items: &I,
     input: &mut R,
     output: &mut W,
-    fault: &mut F,
-) -> u8
-    ensures status { (result ≡ 0) ⊎ (result ≡ 1) }
-    ensures handed_on { result ≡ 0 → IsHandedOn (W.held_back output.new) }
-    ensures handed_on_at_fault { result ≡ 1 → IsHandedOn (W.held_back output.new)
-        ⊎ IsTried (F.known fault.old) (F.known fault.new) (report_line Fault.WriteFailed) }
-    ensures done { result ≡ 0 → IsBatchDone (I.command items.now)
+) -> Result<(), BatchFault>
+    ensures done { OnOk result (IsBatchDone (I.command items.now)
         (input_of (R.known input.old) (R.known input.new) (R.reads input.old) (R.reads input.new))
-        (streams (W.known output.old) (W.known output.new)
-        (F.known fault.old) (F.known fault.new)) }
-    ensures not_done { result ≡ 1 → IsBatchNotDone (I.command items.now)
+        (W.known output.old) (W.known output.new)) }
+    ensures not_done { IfErr result (λ why. IsBatchNotDone (I.command items.now)
         (input_of (R.known input.old) (R.known input.new) (R.reads input.old) (R.reads input.new))
-        (streams (W.known output.old) (W.known output.new)
-        (F.known fault.old) (F.known fault.new)) }
+        why (W.known output.old) (W.known output.new)) }
 {
-    duk_io::laws::failures();
-    duk_io::laws::writes();
     match answer_all(alloc, items, input, output) {
-        End::Answered(done) => end_answered(done, output, fault),
-        End::Unread => end_unread(output, fault),
-        End::Unwritten => report(fault, Fault::WriteFailed),
+        End::Answered(true) => Ok(()),
+        End::Answered(false) => Err(BatchFault::ItemsRefused),
+        End::Unread => Err(BatchFault::ReadFailed),
+        End::Unwritten => Err(BatchFault::WriteFailed),
     }
-}
-
-/// Hands on the answers to all lines, and gives the status: 0 where the command was done for each,
-/// or else 1 with a line.
-fn end_answered<W: Sink, F: Sink>(done: bool, output: &mut W, fault: &mut F) -> u8
-    ensures status { (result ≡ 0) ⊎ (result ≡ 1) }
-    ensures handed_on { result ≡ 0 → IsHandedOn (W.held_back output.new) }
-    ensures handed_on_at_fault { result ≡ 1 → IsHandedOn (W.held_back output.new)
-        ⊎ IsTried (F.known fault.old) (F.known fault.new) (report_line Fault.WriteFailed) }
-    ensures done { result ≡ 0 → (done ≡ true)
-        × IsUntouched (W.known output.old) (W.known output.new)
-        × IsUntouched (F.known fault.old) (F.known fault.new) }
-    ensures not_done { result ≡ 1 → ((done ≡ false)
-        × IsUntouched (W.known output.old) (W.known output.new)
-        × IsTried (F.known fault.old) (F.known fault.new) refused_line)
-        ⊎ IsFlushReported (W.known output.old) (W.known output.new)
-        (F.known fault.old) (F.known fault.new) }
-{
-    duk_io::laws::writes();
-    match output.flush() {
-        Ok(()) if done => 0,
-        Ok(()) => report_refused(fault),
-        Err(_) => report(fault, Fault::WriteFailed),
-    }
-}
-
-/// Hands on the answers to the lines that were read, and gives the status 1, with the line of an
-/// input that cannot be read.
-fn end_unread<W: Sink, F: Sink>(output: &mut W, fault: &mut F) -> u8
-    ensures status { result ≡ 1 }
-    ensures handed_on { IsHandedOn (W.held_back output.new)
-        ⊎ IsTried (F.known fault.old) (F.known fault.new) (report_line Fault.WriteFailed) }
-    ensures reported { (IsUntouched (W.known output.old) (W.known output.new)
-        × IsTried (F.known fault.old) (F.known fault.new) unread_line)
-        ⊎ IsFlushReported (W.known output.old) (W.known output.new)
-        (F.known fault.old) (F.known fault.new) }
-{
-    match output.flush() {
-        Ok(()) => report_unread(fault),
-        Err(_) => report(fault, Fault::WriteFailed),
-    }
-}
-
-/// Writes the line of an input that cannot be read, and gives the status 1. What cannot be written
-/// of the line is lost.
-fn report_unread<F: Sink>(fault: &mut F) -> u8
-    ensures status { result ≡ 1 }
-    ensures line { IsTried (F.known fault.old) (F.known fault.new) unread_line }
-{
-    let line = unread();
-    let _ = write_text(fault, line.as_slice());
-    1
-}
-
-/// Writes the line that tells of refused items, and gives the status 1. What cannot be written of
-/// the line is lost.
-fn report_refused<F: Sink>(fault: &mut F) -> u8
-    ensures status { result ≡ 1 }
-    ensures line { IsTried (F.known fault.old) (F.known fault.new) refused_line }
-{
-    let line = refused();
-    let _ = write_text(fault, line.as_slice());
-    1
-}
-
-/// The line that tells of refused items.
-fn refused() -> Lines
-    ensures { result.items ≡ refused_line }
-{
-    let mut line = Lines::new();
-    push_text(&mut line, b"batch: items refused");
-    push_end(&mut line);
-    line
-}
-
-/// The line of an input that cannot be read.
-fn unread() -> Lines
-    ensures { result.items ≡ unread_line }
-{
-    let mut line = Lines::new();
-    push_text(&mut line, b"batch: read failed");
-    push_end(&mut line);
-    line
 }
 
 /// Answers the lines of the input.

@@ -1,16 +1,17 @@
 -- How a command ends whose lines are known before any of them is written.
-use Rattle.std.proofs.Common.{ℕ, List, Result, Ok, Err, IfOk, IfErr, MatchResult, inl, inr}
-use Rattle.std.specs.Prelude.{IsOkAnd}
-use Rattle.duk_commands.specs.Answer.{HasWriteFailed, HasReported, HasWritten, IsDone, IsNotDone, Streams, command_of}
+use Rattle.std.proofs.Common.{◌≡◌, ℕ, List, Result, Ok, Err, IfErr, OnOk, inr}
+use Rattle.duk_io.specs.Known.{Known}
+use Rattle.duk_io.specs.Sink.{IsCut, IsWritten}
+use Rattle.duk_commands.specs.Answer.{Command, IsDone, IsNotDone}
 use Rattle.duk_commands.specs.declared.fault.Fault.{Fault}
+use Rattle.duk_commands.specs.declared.fault.Fault.TheVariants.{WriteFailed}
 
-pub done : {L : Type 0} (text : L → List ℕ) (writes : List ℕ → Type 0) (refuses : Fault → Type 0) (lines : Result L Fault) (s : Streams)
-    → IfOk lines (λ l. writes (text l)) → IsOkAnd lines (λ l. HasWritten (text l) s) → IsDone (command_of writes refuses) s
-done text writes refuses (Ok l) s asked written = record { text = text l; asked = asked; written = written }
-done text writes refuses (Err why) s asked written = absurd written
+pub done : {V : Type 0} (command : Command) (text : List ℕ) (ended : Result V Fault) (old new : Known) → command.writes text
+    → OnOk ended (IsWritten old new text) → OnOk ended (IsDone command old new)
+done command text (Ok value) old new asked written = record { text = text; asked = asked; written = written }
+done command text (Err why) old new asked written = tt
 
-pub not_done : {L : Type 0} (text : L → List ℕ) (writes : List ℕ → Type 0) (refuses : Fault → Type 0) (lines : Result L Fault) (s : Streams)
-    → IfOk lines (λ l. writes (text l)) → IfErr lines refuses → MatchResult lines (λ l. HasWriteFailed (text l) s) (λ why. HasReported why s)
-    → IsNotDone (command_of writes refuses) s
-not_done text writes refuses (Ok l) s asked cause answer = inr (record { text = text l; asked = asked; failed = answer })
-not_done text writes refuses (Err why) s asked cause answer = inl (record { why = why; cause = cause; reported = answer })
+pub not_done : {V : Type 0} (command : Command) (text : List ℕ) (ended : Result V Fault) (old new : Known) → command.begins text
+    → IfErr ended (λ why. (why ≡ WriteFailed) × IsCut old new text) → IfErr ended (λ why. IsNotDone command why old new)
+not_done command text (Ok value) old new begun cut = tt
+not_done command text (Err why) old new begun cut = inr (cut.0, record { text = text; asked = begun; cut = cut.1 })

@@ -1,5 +1,5 @@
 -- How a command answers (this project's own).
-use Rattle.std.specs.Prelude.{◌⊎◌, ℕ, List}
+use Rattle.std.specs.Prelude.{◌≡◌, ◌⊎◌, ℕ, List}
 use Rattle.duk_io.specs.Known.{Known}
 use Rattle.duk_io.specs.Sink.{IsCut, IsTried, IsUntouched, IsWritten}
 use Rattle.duk_commands.specs.Fault.{report_line}
@@ -32,39 +32,30 @@ streams output_before output_after fault_before fault_after = record {
   fault_after = fault_after;
 }
 
--- exactly this text was written, and no fault
-pub record HasWritten (text : List ℕ) (s : Streams) : Type 0 where
-  pub written : IsWritten s.output_before s.output_after text
-  pub no_fault : IsUntouched s.fault_before s.fault_after
-
--- no output was written, and the line of this fault was
-pub record HasReported (why : Fault) (s : Streams) : Type 0 where
-  pub no_output : IsUntouched s.output_before s.output_after
-  pub line : IsTried s.fault_before s.fault_after (report_line why)
-
--- a write failed, a prefix of this text was written, and the line that reports it
-pub record HasWriteFailed (text : List ℕ) (s : Streams) : Type 0 where
-  pub prefix : IsCut s.output_before s.output_after text
-  pub line : IsTried s.fault_before s.fault_after (report_line WriteFailed)
-
--- status 0: a text that the arguments ask for was written
-pub record IsDone (command : Command) (s : Streams) : Type 0 where
+-- a text that the arguments ask for was written
+pub record IsDone (command : Command) (old new : Known) : Type 0 where
   pub text : List ℕ
   pub asked : command.writes text
-  pub written : HasWritten text s
+  pub written : IsWritten old new text
 
--- the arguments were refused, and that was reported
-pub record IsRefused (command : Command) (s : Streams) : Type 0 where
-  pub why : Fault
+-- the arguments are refused for this reason, and nothing was written
+pub record IsRefused (command : Command) (why : Fault) (old new : Known) : Type 0 where
   pub cause : command.refuses why
-  pub reported : HasReported why s
+  pub no_output : IsUntouched old new
 
 -- such a text was begun, and a write failed
-pub record IsCutShort (command : Command) (s : Streams) : Type 0 where
+pub record IsCutShort (command : Command) (old new : Known) : Type 0 where
   pub text : List ℕ
   pub asked : command.begins text
-  pub failed : HasWriteFailed text s
+  pub cut : IsCut old new text
 
--- status 1: the arguments were refused, or a write failed
-abbrev pub IsNotDone : Command → Streams → Type 0
-IsNotDone command s = IsRefused command s ⊎ IsCutShort command s
+-- why a command is not done: its arguments are refused, or a write failed
+abbrev pub IsNotDone : Command → Fault → Known → Known → Type 0
+IsNotDone command why old new =
+    IsRefused command why old new ⊎ ((why ≡ WriteFailed) × IsCutShort command old new)
+
+-- a command is not done, and the line of its fault was written
+pub record HasReported (command : Command) (s : Streams) : Type 0 where
+  pub why : Fault
+  pub not_done : IsNotDone command why s.output_before s.output_after
+  pub line : IsTried s.fault_before s.fault_after (report_line why)

@@ -2,8 +2,6 @@
 use Rattle.std.specs.Prelude.{ℕ, ◌+◌, List, [], ◌∷◌, ◌++◌, codes}
 use Rattle.duk_block.specs.FaultName.{block_fault_name}
 use Rattle.duk_block.specs.Faults.{rank}
-use Rattle.duk_io.specs.Known.{Known}
-use Rattle.duk_io.specs.Sink.{IsTried}
 use Rattle.duk_pin.specs.FaultName.{pin_fault_name}
 use Rattle.duk_pin.specs.declared.fault.PinFault.{PinFault}
 use Rattle.duk_pin.specs.declared.fault.PinFault.TheVariants.{PinLength, PinDigit, PanLength, PanDigit}
@@ -84,8 +82,3 @@ fault_text WriteFailed = codes "write failed"
 -- the line of a fault
 abbrev pub report_line : Fault → List ℕ
 report_line fault = fault_text fault ++ line_end
-
--- the line of some fault was written, but for what a failed write cut off
-pub record IsFaultReported (old new : Known) : Type 0 where
-  pub why : Fault
-  pub line : IsTried old new (report_line why)

@@ -1,5 +1,6 @@
 pub mod Fault
 pub mod Answer
+pub mod HandedOn
 pub mod Lines
 pub mod Decimal
 pub mod KeyArgument

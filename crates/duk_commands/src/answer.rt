@@ -1,32 +1,29 @@
-//! How a command ends, once its lines or its fault are known.
+//! Writes the lines of a command, and what is told beside them.
 
-ghost use Rattle.std.specs.Prelude.{◌≡◌, ◌⊎◌, MatchResult, IsOkAnd};
-ghost use Rattle.duk_commands.specs.Answer.{HasWriteFailed, HasReported, HasWritten, streams};
+ghost use Rattle.std.specs.Prelude.{◌≡◌, IfErr, OnOk};
+ghost use Rattle.duk_commands.specs.declared.fault.Fault.TheVariants.{WriteFailed};
+ghost use Rattle.duk_io.specs.Sink.{IsCut, IsTried, IsWritten};
 
-use crate::fault::{Fault, report};
+use crate::fault::Fault;
 use crate::lines::Lines;
 use duk_io::{Sink, write_text};
 
-/// Writes the lines to `output`, or else the line of the fault to `fault`, and gives the status: 0,
-/// or 1 where there is a fault, if only that the output cannot be written.
-pub fn finish<W: Sink, F: Sink>(lines: Result<Lines, Fault>, output: &mut W, fault: &mut F) -> u8
-    ensures status { (result ≡ 0) ⊎ (result ≡ 1) }
-    ensures done { result ≡ 0 → IsOkAnd lines (λ lines. HasWritten lines.items
-        (streams (W.known output.old) (W.known output.new)
-        (F.known fault.old) (F.known fault.new))) }
-    ensures not_done { result ≡ 1 → MatchResult lines
-        (λ lines. HasWriteFailed lines.items
-        (streams (W.known output.old) (W.known output.new) (F.known fault.old) (F.known fault.new)))
-        (λ why. HasReported why
-        (streams (W.known output.old) (W.known output.new)
-        (F.known fault.old) (F.known fault.new))) }
+/// Writes the lines of a command. The fault is `write failed`, where a write failed or took no byte.
+pub fn write_lines<W: Sink>(lines: &Lines, output: &mut W) -> Result<(), Fault>
+    ensures written { OnOk result
+        (IsWritten (W.known output.old) (W.known output.new) lines.now.items) }
+    ensures cut { IfErr result (λ why. (why ≡ WriteFailed)
+        × IsCut (W.known output.old) (W.known output.new) lines.now.items) }
 {
-    let lines = match lines {
-        Ok(lines) => lines,
-        Err(why) => return report(fault, why),
-    };
     match write_text(output, lines.as_slice()) {
-        Ok(()) => 0,
-        Err(_) => report(fault, Fault::WriteFailed),
+        Ok(()) => Ok(()),
+        Err(_) => Err(Fault::WriteFailed),
     }
+}
+
+/// Writes a text beside the lines of a command. What cannot be written of it is lost.
+pub fn tell<F: Sink>(fault: &mut F, text: &[u8])
+    ensures { IsTried (F.known fault.old) (F.known fault.new) text.now }
+{
+    let _ = write_text(fault, text);
 }

@@ -1,10 +1,11 @@
 //! The command `derive`: the keys of one key serial number.
 
-ghost use Rattle.std.specs.Prelude.{◌≡◌, ◌⊎◌, IfOk, IfErr};
-ghost use Rattle.duk_commands.specs.Answer.{IsDone, IsNotDone, streams};
+ghost use Rattle.std.specs.Prelude.{◌≡◌, ◌⊎◌, IfOk, IfErr, OnOk};
+ghost use Rattle.duk_commands.specs.Answer.{HasReported, IsDone, IsNotDone, streams};
 ghost use Rattle.duk_commands.specs.Derive.{IsDeriveRefused, IsDeriveText, derive_of, key_lines};
+ghost use Rattle.duk_io.specs.Sink.{IsUntouched};
 
-use crate::answer::finish;
+use crate::answer::{tell, write_lines};
 use crate::fault::Fault;
 use crate::lines::{Lines, push_line};
 use duk_io::Sink;
@@ -19,14 +20,33 @@ use duk_tree::{Ksn, derive, initial_key, pin_key, usable};
 /// failed`, where a write to `output` failed or took no byte.
 pub fn derive_command<W: Sink, F: Sink>(bdk: &str, ksn: &str, output: &mut W, fault: &mut F) -> u8
     ensures status { (result ≡ 0) ⊎ (result ≡ 1) }
-    ensures done { result ≡ 0 → IsDone (derive_of bdk.now ksn.now)
-        (streams (W.known output.old) (W.known output.new)
-        (F.known fault.old) (F.known fault.new)) }
-    ensures not_done { result ≡ 1 → IsNotDone (derive_of bdk.now ksn.now)
+    ensures done { result ≡ 0
+        → IsDone (derive_of bdk.now ksn.now) (W.known output.old) (W.known output.new) }
+    ensures no_fault { result ≡ 0 → IsUntouched (F.known fault.old) (F.known fault.new) }
+    ensures not_done { result ≡ 1 → HasReported (derive_of bdk.now ksn.now)
         (streams (W.known output.old) (W.known output.new)
         (F.known fault.old) (F.known fault.new)) }
 {
-    finish(derive_lines(bdk, ksn), output, fault)
+    duk_io::laws::writes();
+    match write_derived(bdk, ksn, output) {
+        Ok(()) => 0,
+        Err(why) => {
+            tell(fault, why.line().as_slice());
+            1
+        }
+    }
+}
+
+/// Writes the three lines of the two arguments.
+fn write_derived<W: Sink>(bdk: &str, ksn: &str, output: &mut W) -> Result<(), Fault>
+    ensures done { OnOk result
+        (IsDone (derive_of bdk.now ksn.now) (W.known output.old) (W.known output.new)) }
+    ensures not_done { IfErr result (λ why.
+        IsNotDone (derive_of bdk.now ksn.now) why (W.known output.old) (W.known output.new)) }
+{
+    duk_io::laws::writes();
+    let lines = derive_lines(bdk, ksn)?;
+    write_lines(&lines, output)
 }
 
 /// The three lines of the two arguments, or their first fault.

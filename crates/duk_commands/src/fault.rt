@@ -1,12 +1,10 @@
 //! Why a command ends with status 1, and the line of each fault.
 
 ghost use Rattle.std.specs.Prelude.{◌≡◌, ◌≤◌, length};
-ghost use Rattle.duk_io.specs.Sink.{IsTried};
 ghost use Rattle.duk_commands.specs.Fault.{fault_text, report_line};
 
 use crate::lines::{Lines, push_end, push_text};
 use duk_block::BlockFault;
-use duk_io::{Sink, write_text};
 use duk_pin::PinFault;
 
 /// Why a command ends with status 1.
@@ -69,6 +67,16 @@ pub enum Fault {
 }
 
 impl Fault {
+    /// The line that reports the fault, LF at its end.
+    pub fn line(self) -> Lines
+        ensures { result.items ≡ report_line self }
+    {
+        let mut line = Lines::new();
+        push_text(&mut line, self.text().as_bytes());
+        push_end(&mut line);
+        line
+    }
+
     /// What is reported of the fault.
     pub fn text(self) -> &'static str
         ensures text { result.now ≡ fault_text self }
@@ -104,16 +112,4 @@ impl Fault {
             Fault::WriteFailed => "write failed",
         }
     }
-}
-
-/// Writes the line of the fault and gives the status 1. What cannot be written of the line is lost.
-pub fn report<F: Sink>(fault: &mut F, why: Fault) -> u8
-    ensures status { result ≡ 1 }
-    ensures line { IsTried (F.known fault.old) (F.known fault.new) (report_line why) }
-{
-    let mut line = Lines::new();
-    push_text(&mut line, why.text().as_bytes());
-    push_end(&mut line);
-    let _ = write_text(fault, line.as_slice());
-    1
 }

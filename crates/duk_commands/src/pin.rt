@@ -1,42 +1,19 @@
 //! The command `pin`: the PIN block of a PIN and a PAN.
 
-ghost use Rattle.std.specs.Prelude.{◌≡◌, ◌⊎◌, ℕ, List, Option, IfOk, IfErr, MatchResult};
+ghost use Rattle.std.specs.Prelude.{◌≡◌, ℕ, List, Option, IfOk, IfErr, MatchResult};
 ghost use Rattle.std.specs.Option.{option_copied};
-ghost use Rattle.duk_commands.specs.Answer.{IsDone, IsNotDone, streams};
-ghost use Rattle.duk_commands.specs.Pin.{IsKeyArgument, IsPinRefused, IsPinText, block_lines, pin_of};
+ghost use Rattle.duk_commands.specs.Pin.{IsKeyArgument, IsPinRefused, IsPinText, block_lines};
 
-use crate::answer::finish;
 use crate::fault::Fault;
 use crate::lines::{Lines, push_line};
-use duk_io::Sink;
 use duk_pin::{Pan, Pin, encode};
 use duk_tdes::{Key, tdes_encrypt};
 
-/// Writes the PIN block of a PIN and a PAN (ISO 9564-1 format 0) and, where a key is given, the
-/// block enciphered under it, a line each, and gives the status: 0, or 1 with a line on `fault`.
+/// The lines of the PIN block of a PIN and a PAN (ISO 9564-1 format 0) and, where a key is given, of
+/// the block enciphered under it.
 ///
 /// `key` is to be 32 hexadecimal digits of either case. The faults, in this order: that of the PIN
-/// (`PinLength`, `PinDigit`), that of the PAN (`PanLength`, `PanDigit`), `key refused`; then `write
-/// failed`, where a write to `output` failed or took no byte.
-pub fn pin_command<W: Sink, F: Sink>(
-    pin: &str,
-    pan: &str,
-    key: Option<&str>,
-    output: &mut W,
-    fault: &mut F,
-) -> u8
-    ensures status { (result ≡ 0) ⊎ (result ≡ 1) }
-    ensures done { result ≡ 0 → IsDone (pin_of pin.now pan.now (option_copied key.entry))
-        (streams (W.known output.old) (W.known output.new)
-        (F.known fault.old) (F.known fault.new)) }
-    ensures not_done { result ≡ 1 → IsNotDone (pin_of pin.now pan.now (option_copied key.entry))
-        (streams (W.known output.old) (W.known output.new)
-        (F.known fault.old) (F.known fault.new)) }
-{
-    finish(pin_lines(pin, pan, key), output, fault)
-}
-
-/// The lines of the arguments, or their first fault.
+/// (`PinLength`, `PinDigit`), that of the PAN (`PanLength`, `PanDigit`), `key refused`.
 pub fn pin_lines(pin: &str, pan: &str, key: Option<&str>) -> Result<Lines, Fault>
     ensures lines { IfOk result
         (λ lines. IsPinText pin.now pan.now (option_copied key.entry) lines.items) }

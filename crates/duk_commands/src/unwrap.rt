@@ -1,45 +1,22 @@
 //! The command `unwrap`: the header fields and the key of a key block.
 
-ghost use Rattle.std.specs.Prelude.{◌≡◌, ◌⊎◌, IfOk, IfErr};
+ghost use Rattle.std.specs.Prelude.{◌≡◌, IfOk, IfErr};
 ghost use Rattle.duk_block.specs.Faults.{IsFirstFault};
 ghost use Rattle.duk_block.specs.KeyBlock.{Wraps};
 ghost use Rattle.duk_tdes.specs.KeyBytes.{bytes_of};
-ghost use Rattle.duk_commands.specs.Answer.{IsDone, IsNotDone, streams};
-ghost use Rattle.duk_commands.specs.Unwrap.{IsUnwrapRefused, IsUnwrapText, unwrap_of, unwrapped_lines};
+ghost use Rattle.duk_commands.specs.Unwrap.{IsUnwrapRefused, IsUnwrapText, unwrapped_lines};
 
-use crate::answer::finish;
 use crate::fault::Fault;
 use crate::lines::{Lines, push_line, push_text_line};
 use duk_block::{BlockFault, Header, unwrap};
-use duk_io::Sink;
 use duk_tdes::KeyBytes;
 
-/// Writes the header fields and the key of a key block (ANSI X9.143), a line each, and gives the
-/// status: 0, or 1 with a line on `fault`.
+/// The lines of the header fields and the key of a key block (ANSI X9.143).
 ///
 /// `kbpk` is to be the key block protection key, 32 or 48 hexadecimal digits of either case. The
 /// faults, in this order: `KBPK refused`; the block's first of `Length`, `Version`, `HeaderField`,
-/// `OptionalBlock`, `Hex`, `Mac` and `Payload`; then `write failed`, where a write to `output`
-/// failed or took no byte.
-pub fn unwrap_command<W: Sink, F: Sink>(
-    kbpk: &str,
-    block: &str,
-    output: &mut W,
-    fault: &mut F,
-) -> u8
-    ensures status { (result ≡ 0) ⊎ (result ≡ 1) }
-    ensures done { result ≡ 0 → IsDone (unwrap_of kbpk.now block.now)
-        (streams (W.known output.old) (W.known output.new)
-        (F.known fault.old) (F.known fault.new)) }
-    ensures not_done { result ≡ 1 → IsNotDone (unwrap_of kbpk.now block.now)
-        (streams (W.known output.old) (W.known output.new)
-        (F.known fault.old) (F.known fault.new)) }
-{
-    finish(unwrap_lines(kbpk, block), output, fault)
-}
-
-/// The lines of the arguments, or their first fault.
-fn unwrap_lines(kbpk: &str, block: &str) -> Result<Lines, Fault>
+/// `OptionalBlock`, `Hex`, `Mac` and `Payload`.
+pub fn unwrap_lines(kbpk: &str, block: &str) -> Result<Lines, Fault>
     ensures lines { IfOk result (λ lines. IsUnwrapText kbpk.now block.now lines.items) }
     ensures refused { IfErr result (IsUnwrapRefused kbpk.now block.now) }
 {

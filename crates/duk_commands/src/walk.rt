@@ -1,14 +1,14 @@
 //! The command `walk`: a terminal from its first number on.
 
-ghost use Rattle.std.specs.Prelude.{◌≡◌, ◌⊎◌, ◌+◌, ◌≤◌, ◌++◌, ℕ, OnOk, OnErr, IfOk, IfErr, IsSome, IsNone};
+ghost use Rattle.std.specs.Prelude.{◌≡◌, ◌+◌, ◌≤◌, ◌++◌, ℕ, OnOk, OnErr, IfOk, IfErr, IsSome, IsNone};
 ghost use Rattle.std.specs.Option.{option_copied};
 ghost use Rattle.arrayvec.specs.ArrayVec.{array_vec_len};
-ghost use Rattle.duk_commands.specs.Answer.{IsDone, IsNotDone, streams};
+ghost use Rattle.duk_commands.specs.Answer.{IsDone, IsNotDone};
 ghost use Rattle.duk_commands.specs.Walk.{AreWalkArguments, Asked, IsWalkRefused, number_text, spent_line, walk_of, walk_arguments};
 ghost use Rattle.duk_commands.specs.inner.Walk.{HasPrinted, HasPrintedInPart, HasWalked, HasWalkedInPart, IsAskedFor, IsSpentWithin, Passes, before_first};
 
 use crate::count::{read_count, read_skip};
-use crate::fault::{Fault, report};
+use crate::fault::Fault;
 use crate::key_argument::KeyArgument;
 use duk_group::KeysInOrder;
 use duk_io::{
@@ -32,40 +32,32 @@ struct Walk {
 /// Passes `skip` numbers of the terminal with this initial key and initial key serial number, and
 /// then writes up to `count`, a line each: the key serial number and, unless `alone`, its
 /// transaction key. The line `spent` comes where a number is to be passed or written and none is
-/// left. Gives the
-/// status: 0, or 1 with a line on `fault`.
+/// left.
 ///
 /// `key` is to be 32 hexadecimal digits of either case, `iksn` 20 with a counter of zero, `count`
 /// and `skip` decimal digits with a value of at most 1,048,576. The faults, in this order: `BDK
-/// refused`, or `initial refused` of an initial key; `IKSN refused`, `count refused` (of either number); then `write failed`.
-pub fn walk_command<W: Sink, F: Sink>(
+/// refused`, or `initial refused` of an initial key; `IKSN refused`, `count refused` (of either
+/// number); then `write failed`, where a write to `output` failed or took no byte.
+pub fn walk_command<W: Sink>(
     key: KeyArgument<'_>,
     iksn: &str,
     count: &str,
     skip: Option<&str>,
     alone: bool,
     output: &mut W,
-    fault: &mut F,
-) -> u8
-    ensures status { (result ≡ 0) ⊎ (result ≡ 1) }
-    ensures done { result ≡ 0
-        → IsDone (walk_of (walk_arguments key.entry iksn.now count.now (option_copied skip.entry) alone))
-        (streams (W.known output.old) (W.known output.new)
-        (F.known fault.old) (F.known fault.new)) }
-    ensures not_done { result ≡ 1
-        → IsNotDone (walk_of
-        (walk_arguments key.entry iksn.now count.now (option_copied skip.entry) alone))
-        (streams (W.known output.old) (W.known output.new)
-        (F.known fault.old) (F.known fault.new)) }
+) -> Result<(), Fault>
+    ensures done { OnOk result (IsDone
+        (walk_of (walk_arguments key.entry iksn.now count.now (option_copied skip.entry) alone))
+        (W.known output.old) (W.known output.new)) }
+    ensures not_done { IfErr result (λ why. IsNotDone
+        (walk_of (walk_arguments key.entry iksn.now count.now (option_copied skip.entry) alone))
+        why (W.known output.old) (W.known output.new)) }
 {
     duk_io::laws::writes();
-    let walk = match read_walk(key, iksn, count, skip) {
-        Ok(walk) => walk,
-        Err(why) => return report(fault, why),
-    };
+    let walk = read_walk(key, iksn, count, skip)?;
     match write_walk(walk, alone, output) {
-        Ok(()) => 0,
-        Err(_) => report(fault, Fault::WriteFailed),
+        Ok(()) => Ok(()),
+        Err(_) => Err(Fault::WriteFailed),
     }
 }
 

@@ -1,56 +1,30 @@
 //! The command `wrap`: the key block of a key.
 
-ghost use Rattle.std.specs.Prelude.{◌≡◌, ◌≢◌, ◌⊎◌, ◌++◌, ◌≤◌, ℕ, List, IfOk, IfErr, MatchBool, MatchOption, length};
+ghost use Rattle.std.specs.Prelude.{◌≡◌, ◌≢◌, ◌++◌, ◌≤◌, ℕ, List, IfOk, IfErr, MatchBool, MatchOption, length};
 ghost use Rattle.duk_block.specs.Hexadecimal.{IsHexadecimal};
 ghost use Rattle.duk_block.specs.KeyBlock.{FitsKeyBlock, IsWithinLimits, IsWrittenKeyBlock};
 ghost use Rattle.duk_tdes.specs.KeyBytes.{bytes_of};
 ghost use Rattle.duk_tdes.specs.Tdes.{IsTdesLength};
-ghost use Rattle.duk_commands.specs.Answer.{IsDone, IsNotDone, streams};
 ghost use Rattle.duk_commands.specs.Fault.{line_end};
-ghost use Rattle.duk_commands.specs.Wrap.{IsFieldsText, IsWrapRefused, IsWrapText, IsWrapping, wrap_of, wrap_arguments};
+ghost use Rattle.duk_commands.specs.Wrap.{IsFieldsText, IsWrapRefused, IsWrapText, IsWrapping, wrap_arguments};
 ghost use Rattle.duk_commands.specs.inner.Wrap.{IsWrapFault, wrapping};
 
-use crate::answer::finish;
 use crate::fault::Fault;
 use crate::lines::{Lines, push_end, push_text};
 use arrayvec::ArrayVec;
 use duk_block::{BlockFault, BlockText, Header, wrap};
-use duk_io::Sink;
 use duk_tdes::{Key, KeyBytes, array_of};
 
 /// The most bytes that the payload of a key block of 512 characters has: longer padding fits none.
 const MOST_PADDING: usize = 240;
 
-/// Writes the key block (ANSI X9.143) of a key, a line, and gives the status: 0, or 1 with a line
-/// on `fault`.
+/// The line of the key block (ANSI X9.143) of a key.
 ///
 /// `kbpk` is to be the key block protection key and `key` the key, each 32 or 48 hexadecimal digits
 /// of either case; `fields` the usage, algorithm, mode, version and exportability; `pad` the
 /// padding in hexadecimal. The faults, in this order: `KBPK refused`, `fields refused` (not 7
-/// bytes), `key refused`, `pad refused`, then `HeaderField` and `PadLength` of the block; then
-/// `write failed`, where a write to `output` failed or took no byte.
-pub fn wrap_command<W: Sink, F: Sink>(
-    kbpk: &str,
-    fields: &str,
-    key: &str,
-    pad: &str,
-    output: &mut W,
-    fault: &mut F,
-) -> u8
-    ensures status { (result ≡ 0) ⊎ (result ≡ 1) }
-    ensures done { result ≡ 0 → IsDone (wrap_of (wrap_arguments kbpk.now fields.now key.now pad.now))
-        (streams (W.known output.old) (W.known output.new)
-        (F.known fault.old) (F.known fault.new)) }
-    ensures not_done { result ≡ 1
-        → IsNotDone (wrap_of (wrap_arguments kbpk.now fields.now key.now pad.now))
-        (streams (W.known output.old) (W.known output.new)
-        (F.known fault.old) (F.known fault.new)) }
-{
-    finish(wrap_line(kbpk, fields, key, pad), output, fault)
-}
-
-/// The line of the arguments, or their first fault.
-fn wrap_line(kbpk: &str, fields: &str, key: &str, pad: &str) -> Result<Lines, Fault>
+/// bytes), `key refused`, `pad refused`, then `HeaderField` and `PadLength` of the block.
+pub fn wrap_line(kbpk: &str, fields: &str, key: &str, pad: &str) -> Result<Lines, Fault>
     ensures line { IfOk result
         (λ lines. IsWrapText (wrap_arguments kbpk.now fields.now key.now pad.now) lines.items) }
     ensures refused { IfErr result

@@ -1,12 +1,11 @@
 //! Why keys are not issued, and the line of each fault.
 
 ghost use Rattle.std.specs.Prelude.{◌≡◌, ◌≤◌, length};
-ghost use Rattle.duk_io.specs.Sink.{IsTried};
 ghost use Rattle.duk_issue.specs.Fault.{issue_line, issue_text};
 ghost use Rattle.duk_issue.specs.declared.fault.IssueFault.TheVariants.{OutOfMemory};
 
 use duk_commands::{Lines, push_end, push_text};
-use duk_io::{Sink, append_hex, write_text};
+use duk_io::append_hex;
 use duk_tree::Iksn;
 use std::alloc::AllocError;
 
@@ -94,13 +93,4 @@ impl From<AllocError> for IssueFault {
     fn from(_refused: AllocError) -> IssueFault {
         IssueFault::OutOfMemory
     }
-}
-
-/// Writes the line of the fault and gives the status 1. What cannot be written of the line is lost.
-pub fn report<F: Sink>(fault: &mut F, why: IssueFault) -> u8
-    ensures status { result ≡ 1 }
-    ensures line { IsTried (F.known fault.old) (F.known fault.new) (issue_line why) }
-{
-    let _ = write_text(fault, why.line().as_slice());
-    1
 }

@@ -19,7 +19,7 @@ mod order;
 mod serial;
 
 pub use again::issue_again;
-pub use fault::{IssueFault, report};
+pub use fault::IssueFault;
 pub use issuing::issue;
 pub use note::note_passed_over;
 pub use order::{Order, PADDING_LENGTH};

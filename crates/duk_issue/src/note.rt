@@ -4,8 +4,8 @@ ghost use Rattle.std.specs.Prelude.{◌≡◌};
 ghost use Rattle.duk_io.specs.Sink.{IsTried};
 ghost use Rattle.duk_issue.specs.Lines.{passed_over_line};
 
-use duk_commands::{Lines, push_end, push_text};
-use duk_io::{Sink, write_text};
+use duk_commands::{Lines, push_end, push_text, tell};
+use duk_io::Sink;
 use itoa::Buffer;
 
 /// Writes on `fault` how many numbers of an order were passed over, as `passed over N`. What cannot
@@ -13,7 +13,7 @@ use itoa::Buffer;
 pub fn note_passed_over<F: Sink>(fault: &mut F, count: u32)
     ensures { IsTried (F.known fault.old) (F.known fault.new) (passed_over_line count) }
 {
-    let _ = write_text(fault, line_of(count).as_slice());
+    tell(fault, line_of(count).as_slice());
 }
 
 /// The line.

@@ -12,7 +12,7 @@ use Rattle.duk_arguments.specs.declared.request.Request.TheVariants as request
 use Rattle.duk_arguments.specs.declared.request.Sought.TheVariants as seeking
 use Rattle.duk_host.specs.Serve.{Supply}
 use Rattle.duk_service.specs.Files.{FileKnown}
-use Rattle.duk_program.specs.Secrets.{EachMeans, HasMeaning, HasWordsAlone, IsInputTaken, IsOverSecrets, IsWord, Means, OptionMeans, inputs_in, is_input_reference, path_of, secrets_of}
+use Rattle.duk_program.specs.Secrets.{EachMeans, HasMeaning, HasWordsAlone, IsInputTaken, IsWord, Means, OptionMeans, inputs_in, is_input_reference, path_of, secrets_of}
 
 pub each_push : {A : Type 0} (P : A → Type 0) (xs : List A) (x : A) → Each P xs → P x → Each P (xs ++ x ∷ [])
 each_push P [] x each one = (one, tt)
@@ -80,33 +80,33 @@ pub words_untouched : (now : Supply) (texts : List (List ℕ)) → Each IsWord t
 words_untouched now texts words = rw (words_no_input texts words) refl
 
 -- words alone are what is meant
-pub words_have_meaning : (held : List ℕ → FileKnown) (asked : Request) → IsOverSecrets asked → HasWordsAlone asked → HasMeaning held asked asked
-words_have_meaning held (request.Run config script journal) over words = absurd over
-words_have_meaning held (request.Serve config kept) over words = absurd over
-words_have_meaning held (request.NewLog file records) over words = absurd over
-words_have_meaning held (request.NewJournal file records) over words = absurd over
-words_have_meaning held (request.CopyJournal old new) over words = absurd over
-words_have_meaning held (request.Derive bdk ksn initial trace all) over words =
+pub words_have_meaning : (held : List ℕ → FileKnown) (asked : Request) → HasWordsAlone asked → HasMeaning held asked asked
+words_have_meaning held (request.Run config script journal) words = refl
+words_have_meaning held (request.Serve config kept) words = refl
+words_have_meaning held (request.NewLog file records) words = refl
+words_have_meaning held (request.NewJournal file records) words = refl
+words_have_meaning held (request.CopyJournal old new) words = refl
+words_have_meaning held (request.Derive bdk ksn initial trace all) words =
     (word_means held bdk.now words.0, refl, refl, refl, refl)
-words_have_meaning held (request.Walk bdk iksn count skip alone initial) over words =
+words_have_meaning held (request.Walk bdk iksn count skip alone initial) words =
     (word_means held bdk.now words.0, refl, refl, refl, refl, refl)
-words_have_meaning held (request.Pin pin pan None) over words =
+words_have_meaning held (request.Pin pin pan None) words =
     (word_means held pin.now words.0, word_means held pan.now words.1.0, tt)
-words_have_meaning held (request.Pin pin pan (Some key)) over words =
+words_have_meaning held (request.Pin pin pan (Some key)) words =
     (word_means held pin.now words.0, word_means held pan.now words.1.0, word_means held key.now words.1.1.0)
-words_have_meaning held (request.Wrap kbpk fields key pad) over words =
+words_have_meaning held (request.Wrap kbpk fields key pad) words =
     (word_means held kbpk.now words.0, refl, word_means held key.now words.1.0, refl)
-words_have_meaning held (request.Unwrap kbpk block) over words = (word_means held kbpk.now words.0, refl)
-words_have_meaning held (request.Initial bdk iksn) over words = (word_means held bdk.now words.0, refl)
-words_have_meaning held (request.Registers bdk ksn initial) over words = (word_means held bdk.now words.0, refl, refl)
-words_have_meaning held (request.Kcv keys components show) over words = (words_mean held (texts_of_keys keys) words, refl, refl)
-words_have_meaning held (request.Mac key text cmac hex) over words = (word_means held key.now words.0, refl, refl, refl)
-words_have_meaning held (request.Data key text iv decipher hex) over words = (word_means held key.now words.0, refl, refl, refl, refl)
-words_have_meaning held (request.Unpin block pan None show) over words =
+words_have_meaning held (request.Unwrap kbpk block) words = (word_means held kbpk.now words.0, refl)
+words_have_meaning held (request.Initial bdk iksn) words = (word_means held bdk.now words.0, refl)
+words_have_meaning held (request.Registers bdk ksn initial) words = (word_means held bdk.now words.0, refl, refl)
+words_have_meaning held (request.Kcv keys components show) words = (words_mean held (texts_of_keys keys) words, refl, refl)
+words_have_meaning held (request.Mac key text cmac hex) words = (word_means held key.now words.0, refl, refl, refl)
+words_have_meaning held (request.Data key text iv decipher hex) words = (word_means held key.now words.0, refl, refl, refl, refl)
+words_have_meaning held (request.Unpin block pan None show) words =
     (word_means held block.now words.0, word_means held pan.now words.1.0, tt, refl)
-words_have_meaning held (request.Unpin block pan (Some key) show) over words =
+words_have_meaning held (request.Unpin block pan (Some key) show) words =
     (word_means held block.now words.0, word_means held pan.now words.1.0, word_means held key.now words.1.1.0, refl)
-words_have_meaning held (request.Translate block pan bdk ksn zone initial) over words = (
+words_have_meaning held (request.Translate block pan bdk ksn zone initial) words = (
   word_means held block.now words.0,
   word_means held pan.now words.1.0,
   word_means held bdk.now words.1.1.0,
@@ -114,46 +114,34 @@ words_have_meaning held (request.Translate block pan bdk ksn zone initial) over 
   word_means held zone.now words.1.1.1.0,
   refl,
 )
-words_have_meaning held (request.MakeRequest bdk ksn pan pin amount initial) over words =
+words_have_meaning held (request.MakeRequest bdk ksn pan pin amount initial) words =
     (word_means held bdk.now words.0, refl, word_means held pan.now words.1.0, word_means held pin.now words.1.1.0, refl, refl)
-words_have_meaning held (request.MakeReversal bdk ksn reversed initial) over words = (word_means held bdk.now words.0, refl, refl, refl)
-words_have_meaning held (request.CheckReply bdk asked answer initial) over words = (word_means held bdk.now words.0, refl, refl, refl)
-words_have_meaning held (request.Issue bdk loading iksn count ledger way) over words =
+words_have_meaning held (request.MakeReversal bdk ksn reversed initial) words = (word_means held bdk.now words.0, refl, refl, refl)
+words_have_meaning held (request.CheckReply bdk asked answer initial) words = (word_means held bdk.now words.0, refl, refl, refl)
+words_have_meaning held (request.Issue bdk loading iksn count ledger way) words =
     (word_means held bdk.now words.0, word_means held loading.now words.1.0, refl, refl, refl, refl)
-words_have_meaning held (request.Find bdk what (seeking.Frame from) window initial) over words =
+words_have_meaning held (request.Find bdk what (seeking.Frame from) window initial) words =
     (word_means held bdk.now words.0, word_means held what.now words.1.0, refl, refl, refl)
-words_have_meaning held (request.Find bdk what (seeking.Mac text hex from) window initial) over words =
+words_have_meaning held (request.Find bdk what (seeking.Mac text hex from) window initial) words =
     (word_means held bdk.now words.0, word_means held what.now words.1.0, (refl, refl, refl), refl, refl)
-words_have_meaning held (request.Find bdk what (seeking.PinBlock pan from) window initial) over words =
+words_have_meaning held (request.Find bdk what (seeking.PinBlock pan from) window initial) words =
     (word_means held bdk.now words.0, word_means held what.now words.1.0, (word_means held pan.now words.1.1.0, refl), refl, refl)
-words_have_meaning held (request.Find bdk what (seeking.Ciphertext clear from) window initial) over words =
+words_have_meaning held (request.Find bdk what (seeking.Ciphertext clear from) window initial) words =
     (word_means held bdk.now words.0, word_means held what.now words.1.0, (word_means held clear.now words.1.1.0, refl), refl, refl)
-words_have_meaning held (request.CheckFrame what bdk show initial) over words =
+words_have_meaning held (request.CheckFrame what bdk show initial) words =
     (word_means held what.now words.0, word_means held bdk.now words.1.0, refl, refl)
-words_have_meaning held (request.Show kind what show) over words = (refl, word_means held what.now words.0, refl)
+words_have_meaning held (request.Show kind what show) words = (refl, word_means held what.now words.0, refl)
 
--- a request over secrets has from 1 to 16 of them
-secrets_count : (asked : Request) → IsOverSecrets asked → (1 ≤ length (secrets_of asked)) × (length (secrets_of asked) ≤ 16)
-secrets_count (request.Run config script journal) over = absurd over
-secrets_count (request.Serve config kept) over = absurd over
-secrets_count (request.NewLog file records) over = absurd over
-secrets_count (request.NewJournal file records) over = absurd over
-secrets_count (request.CopyJournal old new) over = absurd over
-secrets_count (request.Pin pin pan None) over = (omega arith, omega arith)
-secrets_count (request.Pin pin pan (Some key)) over = (omega arith, omega arith)
-secrets_count (request.Unpin block pan None show) over = (omega arith, omega arith)
-secrets_count (request.Unpin block pan (Some key) show) over = (omega arith, omega arith)
-secrets_count (request.Find bdk what (seeking.Frame from) window initial) over = (omega arith, omega arith)
-secrets_count (request.Find bdk what (seeking.Mac text hex from) window initial) over = (omega arith, omega arith)
-secrets_count (request.Find bdk what (seeking.PinBlock pan from) window initial) over = (omega arith, omega arith)
-secrets_count (request.Find bdk what (seeking.Ciphertext clear from) window initial) over = (omega arith, omega arith)
-secrets_count (request.Kcv keys components show) over =
-    subst (λ (n : ℕ). (1 ≤ n) × (n ≤ 16)) (sym (length-map _ _ ∙ length-take-le keys.count _ keys.in_range.1)) keys.in_range
-secrets_count asked over = (omega arith, omega arith)
-
--- and so have the texts that they stand for
-pub as_many : (asked : Request) (count : ℕ) → IsOverSecrets asked → count ≡ length (secrets_of asked) → (1 ≤ count) × (count ≤ 16)
-as_many asked count over same = subst (λ (n : ℕ). (1 ≤ n) × (n ≤ 16)) (sym same) (secrets_count asked over)
-
-pub has_secrets : (asked : Request) → IsOverSecrets asked → secrets_of asked ≡ [] → ⊥
-has_secrets asked over none = let some = (secrets_count asked over).0 in let empty = ap length none in absurd (omega (arith, some, empty))
+-- a request has at most 16 secrets
+pub secrets_count : (asked : Request) → length (secrets_of asked) ≤ 16
+secrets_count (request.Pin pin pan None) = omega arith
+secrets_count (request.Pin pin pan (Some key)) = omega arith
+secrets_count (request.Unpin block pan None show) = omega arith
+secrets_count (request.Unpin block pan (Some key) show) = omega arith
+secrets_count (request.Find bdk what (seeking.Frame from) window initial) = omega arith
+secrets_count (request.Find bdk what (seeking.Mac text hex from) window initial) = omega arith
+secrets_count (request.Find bdk what (seeking.PinBlock pan from) window initial) = omega arith
+secrets_count (request.Find bdk what (seeking.Ciphertext clear from) window initial) = omega arith
+secrets_count (request.Kcv keys components show) =
+    subst (λ (n : ℕ). n ≤ 16) (sym (length-map _ _ ∙ length-take-le keys.count _ keys.in_range.1)) keys.in_range.1
+secrets_count asked = omega arith

@@ -1,19 +1,16 @@
 -- What `find` does for a request (this project's own, over what it makes of its arguments).
-use Rattle.std.specs.Prelude.{◌≡◌, ◌⊎◌, ⊤, Bool, List, Option, ℕ}
+use Rattle.std.specs.Prelude.{◌≡◌, Bool, List, Option, ℕ}
 use Rattle.std.specs.Borrow.{Bor}
 use Rattle.std.specs.Option.{option_copied}
 use Rattle.duk_arguments.specs.Given.{first_in}
-use Rattle.duk_arguments.specs.declared.request.Request.{Request}
-use Rattle.duk_arguments.specs.declared.request.Request.TheVariants as request
 use Rattle.duk_arguments.specs.declared.request.Sought.{Sought}
 use Rattle.duk_arguments.specs.declared.request.Sought.TheVariants as seeking
 use Rattle.duk_commands.specs.Answer.{Streams, streams}
+use Rattle.duk_commands.specs.HandedOn.{HasFailed, HasHandedOn}
 use Rattle.duk_commands.specs.KeyArgument.{key_argument}
-use Rattle.duk_io.specs.Known.{Known}
-use Rattle.duk_io.specs.Sink.{IsTried}
-use Rattle.duk_service.specs.HandedOn.{IsFlushLost}
+use Rattle.duk_program.specs.declared.fault.Fault.{Fault}
+use Rattle.duk_program.specs.declared.fault.Fault.TheVariants as fault
 use Rattle.duk_tools.specs.Find.{FindArguments, IsFindDone, IsFindFailed, find_arguments}
-use Rattle.duk_tools.specs.FindFault.{find_line}
 use Rattle.duk_tools.specs.declared.find_fault.FindFault.{FindFault}
 use Rattle.duk_tools.specs.declared.find_fault.FindFault.TheVariants.{WriteFailed}
 use Rattle.duk_tools.specs.declared.sought.Clue.{Clue}
@@ -33,33 +30,17 @@ find_for bdk what sought window initial =
     find_arguments (key_argument bdk initial) what.now (clue_for sought) (first_in sought)
     (option_copied window)
 
--- a request is a search, with these arguments
-abbrev pub IsSearchWith : Request → FindArguments → Type 0
-IsSearchWith (request.Find bdk what sought window initial) arguments =
-    arguments ≡ find_for bdk what sought window initial
-IsSearchWith asked arguments = ⊥
+-- what is found is written, with the progress before it, and it is handed on
+abbrev pub HasFoundIt : FindArguments → Streams → Type 0
+HasFoundIt arguments s = HasHandedOn (λ written.
+    IsFindDone arguments (streams s.output_before written s.fault_before s.fault_after))
+    s.output_after
 
--- a request is a search
-abbrev pub IsSearch : Request → Type 0
-IsSearch (request.Find bdk what sought window initial) = ⊤
-IsSearch asked = ⊥
-
--- what was found is written, and could not be handed on, which is still to be reported
-pub record HasLostFound (arguments : FindArguments) (s : Streams) : Type 0 where
-  pub written : Known
-  pub done : IsFindDone arguments
-      (streams s.output_before written s.fault_before s.fault_after)
-  pub lost : IsFlushLost written s.output_after
-
--- there is no answer for this reason, which is still to be reported
-abbrev pub IsFindUndone : FindArguments → FindFault → Streams → Type 0
-IsFindUndone arguments why s =
-    IsFindFailed arguments why s ⊎ ((why ≡ WriteFailed) × HasLostFound arguments s)
-
--- there is no answer, and that is reported behind the lines of progress
-pub record IsFindNotDone (arguments : FindArguments) (s : Streams) : Type 0 where
-  pub why : FindFault
-  pub between : Known
-  pub undone : IsFindUndone arguments why
-      (streams s.output_before s.output_after s.fault_before between)
-  pub line : IsTried between s.fault_after (find_line why)
+-- why it is not
+pub record HasNotFoundIt (arguments : FindArguments) (s : Streams) (why : Fault) : Type 0 where
+  pub cause : FindFault
+  pub why_is : why ≡ fault.Find cause
+  pub failed : HasFailed
+      (λ written. IsFindDone arguments (streams s.output_before written s.fault_before s.fault_after))
+      (λ cause written. IsFindFailed arguments cause
+      (streams s.output_before written s.fault_before s.fault_after)) WriteFailed cause s.output_after

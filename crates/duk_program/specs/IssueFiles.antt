@@ -7,10 +7,10 @@ use Rattle.duk_program.specs.declared.issue_files.IfIssued.{IfIssued}
 use Rattle.duk_program.specs.declared.issue_files.IfIssued.TheVariants as if_issued
 use Rattle.duk_arguments.specs.declared.request.IssueWay.{IssueWay}
 use Rattle.duk_commands.specs.Answer.{Streams, streams}
+use Rattle.duk_commands.specs.HandedOn.{HasFailed, IsFlushLost}
 use Rattle.duk_io.specs.Known.{Known}
 use Rattle.duk_io.specs.Sink.{IsTried, IsUntouched}
 use Rattle.duk_issue.specs.Again.{AreMadeAgain, NotMadeAgain}
-use Rattle.duk_issue.specs.Fault.{issue_line}
 use Rattle.duk_issue.specs.Issue.{Ends, HasIssuedBut, IssueFailed, ends, job}
 use Rattle.duk_issue.specs.Lines.{passed_over_line}
 use Rattle.duk_issue.specs.Order.{IsOrderOf, IsOrderRefused, OrderArguments, order_arguments}
@@ -18,7 +18,6 @@ use Rattle.duk_issue.specs.declared.fault.IssueFault.{IssueFault}
 use Rattle.duk_issue.specs.declared.fault.IssueFault.TheVariants as fault
 use Rattle.duk_issue.specs.declared.order.Order.{Order}
 use Rattle.duk_service.specs.Files.{FileKnown, IsFrontRead, IsShorterThan}
-use Rattle.duk_service.specs.HandedOn.{IsFlushReported, IsReportedAfter}
 use Rattle.duk_service.specs.LogFiles.{AreLinesMade, AreNoLines, DiskKnown, LinesKnown, MakingKnown}
 use Rattle.duk_service.specs.OwnFiles.{IsNoOwnDisk, IsOwnDisk}
 use Rattle.duk_service.specs.declared.left_records.RecordFormat.TheVariants.{Log}
@@ -113,31 +112,23 @@ pub record IsIssuedOver {L : Type 0} (meaning : LogMeaning L) (task : IssueTask)
   pub kept : IsUntouched written i.streams.output_after
   pub noted : IsNoted passed_over i.streams.fault_before i.streams.fault_after
 
--- not all lines are made, and that is reported behind those that were written
-pub record HasStoppedOver {L : Type 0} (meaning : LogMeaning L) (task : IssueTask) (i : Issuing L)
-    : Type 0 where
-  pub last : L
-  pub written : Known
-  pub why : IssueFault
-  pub failed : HasNotMadeLines meaning task (ends i.made i.streams.output_before)
-      (ends last written) why
-  pub ended : IsReportedAfter (issue_line why) (issue_line fault.WriteFailed) written
-      i.streams.output_after i.streams.fault_before i.streams.fault_after
+-- what a task comes to when its output makes this known: all lines are made
+abbrev pub HasMadeAll : {L : Type 0} → LogMeaning L → IssueTask → Issuing L → Known → Type 0
+HasMadeAll {L} meaning task i written = (last : L) × (passed_over : ℕ)
+    × HasMadeLines meaning task (ends i.made i.streams.output_before) (ends last written) passed_over
 
--- all lines are made and could not be handed on, and that is reported
-pub record HasLostOver {L : Type 0} (meaning : LogMeaning L) (task : IssueTask) (i : Issuing L)
-    : Type 0 where
-  pub last : L
-  pub written : Known
-  pub passed_over : ℕ
-  pub made : HasMadeLines meaning task (ends i.made i.streams.output_before) (ends last written)
-      passed_over
-  pub reported : IsFlushReported (issue_line fault.WriteFailed) written i.streams.output_after
-      i.streams.fault_before i.streams.fault_after
+-- or not, for this reason
+abbrev pub HasStopped : {L : Type 0} → LogMeaning L → IssueTask → Issuing L → IssueFault → Known → Type 0
+HasStopped {L} meaning task i why written = (last : L)
+    × HasNotMadeLines meaning task (ends i.made i.streams.output_before) (ends last written) why
 
--- status 1 over a ledger
-abbrev pub IsNotIssuedOver : {L : Type 0} → LogMeaning L → IssueTask → Issuing L → Type 0
-IsNotIssuedOver meaning task i = HasStoppedOver meaning task i ⊎ HasLostOver meaning task i
+-- why a task is not done over a ledger: not all lines are made, or they could not be handed on;
+-- nothing is noted then
+pub record IsNotIssuedOver {L : Type 0} (meaning : LogMeaning L) (task : IssueTask) (i : Issuing L)
+    (why : IssueFault) : Type 0 where
+  pub failed : HasFailed (HasMadeAll meaning task i) (HasStopped meaning task i) fault.WriteFailed
+      why i.streams.output_after
+  pub no_note : IsUntouched i.streams.fault_before i.streams.fault_after
 
 -- the lines go to a new file: what is done with the writer to it, of which this is known before and
 -- after. Nothing is written to the output
@@ -153,32 +144,38 @@ pub record IsOverLines {L : Type 0} (lines : LinesKnown) (i : Issuing L)
 abbrev pub IsIssuedToFile : {L : Type 0} → LogMeaning L → LinesKnown → IssueTask → Issuing L → Type 0
 IsIssuedToFile meaning lines task i = IsOverLines lines i (IsIssuedOver meaning task)
 
--- a fault is reported, and nothing was written
-pub record HasReportedIssue (why : IssueFault) (s : Streams) : Type 0 where
+-- nothing is written or noted
+pub record IsUntold (s : Streams) : Type 0 where
   pub no_output : IsUntouched s.output_before s.output_after
-  pub line : IsTried s.fault_before s.fault_after (issue_line why)
+  pub no_note : IsUntouched s.fault_before s.fault_after
 
--- no new file can be made, and that is reported
+-- what was held back before could not be handed on
+pub record HasLostFirst (s : Streams) : Type 0 where
+  pub lost : IsFlushLost s.output_before s.output_after
+  pub no_note : IsUntouched s.fault_before s.fault_after
+
+-- no new file can be made
 pub record HasNoLines (lines : LinesKnown) (s : Streams) : Type 0 where
   pub unmade : AreNoLines lines
-  pub reported : HasReportedIssue fault.OutUnmade s
+  pub untold : IsUntold s
 
--- status 1 with the lines in a new file
-abbrev pub IsNotIssuedToFile : {L : Type 0} → LogMeaning L → LinesKnown → IssueTask → Issuing L → Type 0
-IsNotIssuedToFile meaning lines task i =
-    IsFlushReported (issue_line fault.WriteFailed) i.streams.output_before i.streams.output_after
-    i.streams.fault_before i.streams.fault_after
-    ⊎ HasNoLines lines i.streams
-    ⊎ IsOverLines lines i (IsNotIssuedOver meaning task)
+-- why a task is not done with its lines in a new file
+abbrev pub IsNotIssuedToFile : {L : Type 0} → LogMeaning L → LinesKnown → IssueTask → Issuing L
+    → IssueFault → Type 0
+IsNotIssuedToFile meaning lines task i why =
+    ((why ≡ fault.WriteFailed) × HasLostFirst i.streams)
+    ⊎ ((why ≡ fault.OutUnmade) × HasNoLines lines i.streams)
+    ⊎ IsOverLines lines i (λ over. IsNotIssuedOver meaning task over why)
 
--- status 0 and 1 with the lines on the output, or in a new file under a path
+-- a task is done with the lines on the output, or in a new file under a path
 abbrev pub IsIssuedTo : {L D : Type 0} → LogMeaning L → (List ℕ → MakingKnown D)
     → Option (List ℕ) → IssueTask → Issuing L → Type 0
 IsIssuedTo meaning making None = IsIssuedOver meaning
 IsIssuedTo meaning making (Some path) = IsIssuedToFile meaning (making path).lines
 
+-- why it is not
 abbrev pub IsNotIssuedTo : {L D : Type 0} → LogMeaning L → (List ℕ → MakingKnown D)
-    → Option (List ℕ) → IssueTask → Issuing L → Type 0
+    → Option (List ℕ) → IssueTask → Issuing L → IssueFault → Type 0
 IsNotIssuedTo meaning making None = IsNotIssuedOver meaning
 IsNotIssuedTo meaning making (Some path) = IsNotIssuedToFile meaning (making path).lines
 
@@ -221,18 +218,17 @@ pub record IsBegun {D : Type 0} (meaning : DiskMeaning D) (known : IssueFilesKno
   pub opened : IsLedgerOpened meaning known.ledger disk
   pub end : Ends (issue_task order (if_issued_in arguments.way) padding) disk
 
--- status 0: all keys are issued over the ledger of the file
+-- all keys are issued over the ledger of the file
 abbrev pub HasIssuedFiles : {D : Type 0} → DiskMeaning D → IssueFilesKnown D → IssueArguments → Streams
     → Type 0
 HasIssuedFiles meaning known arguments s = IsBegun meaning known arguments
     (λ task disk. IsIssuedTo (disk_log_meaning meaning) known.making
     (option_copied arguments.way.out) task (issuing (new_disk_log disk) s))
 
--- the arguments are refused, and that is reported
-pub record HasNoOrder (arguments : IssueArguments) (s : Streams) : Type 0 where
-  pub why : IssueFault
+-- the arguments are refused, and nothing is written
+pub record HasNoOrder (arguments : IssueArguments) (s : Streams) (why : IssueFault) : Type 0 where
   pub cause : IsOrderRefused (order_in arguments) why
-  pub reported : HasReportedIssue why s
+  pub untold : IsUntold s
 
 -- why there is no padding for so many keys; memory may be refused at any time
 abbrev pub IsPaddingRefused : FileKnown → ℕ → IssueFault → Type 0
@@ -240,29 +236,28 @@ IsPaddingRefused random count fault.PaddingUnread = IsShorterThan (6 * count) ra
 IsPaddingRefused random count fault.OutOfMemory = ⊤
 IsPaddingRefused random count why = ⊥
 
--- there is an order, and no padding for it, and that is reported
-pub record HasNoPadding (random : FileKnown) (arguments : IssueArguments) (s : Streams) : Type 0 where
+-- there is an order, no padding for it, and nothing is written
+pub record HasNoPadding (random : FileKnown) (arguments : IssueArguments) (s : Streams)
+    (why : IssueFault) : Type 0 where
   pub order : Order
   pub read : IsOrderOf (order_in arguments) order
-  pub why : IssueFault
   pub cause : IsPaddingRefused random order.count why
-  pub reported : HasReportedIssue why s
+  pub untold : IsUntold s
 
--- there is an order, and the ledger's file is not opened, and that is reported
+-- there is an order, the ledger's file is not opened, and nothing is written
 pub record HasNoLedger {D : Type 0} (meaning : DiskMeaning D) (known : DiskKnown D)
-    (arguments : IssueArguments) (s : Streams) : Type 0 where
+    (arguments : IssueArguments) (s : Streams) (why : IssueFault) : Type 0 where
   pub order : Order
   pub read : IsOrderOf (order_in arguments) order
-  pub why : IssueFault
   pub cause : IsLedgerUnopened meaning known why
-  pub reported : HasReportedIssue why s
+  pub untold : IsUntold s
 
--- status 1: the first of these
+-- why the keys are not issued: the first of these
 abbrev pub HasNotIssuedFiles : {D : Type 0} → DiskMeaning D → IssueFilesKnown D → IssueArguments → Streams
-    → Type 0
-HasNotIssuedFiles meaning known arguments s =
-    HasNoOrder arguments s ⊎ HasNoPadding known.random arguments s
-    ⊎ HasNoLedger meaning known.ledger arguments s
+    → IssueFault → Type 0
+HasNotIssuedFiles meaning known arguments s why =
+    HasNoOrder arguments s why ⊎ HasNoPadding known.random arguments s why
+    ⊎ HasNoLedger meaning known.ledger arguments s why
     ⊎ IsBegun meaning known arguments
     (λ task disk. IsNotIssuedTo (disk_log_meaning meaning) known.making
-    (option_copied arguments.way.out) task (issuing (new_disk_log disk) s))
+    (option_copied arguments.way.out) task (issuing (new_disk_log disk) s) why)

@@ -7,13 +7,16 @@ use Rattle.std.specs.Str.{bytes_eq}
 use Rattle.duk_arguments.specs.Keys.{texts_of_keys}
 use Rattle.duk_arguments.specs.declared.request.Request.{Request}
 use Rattle.duk_arguments.specs.declared.request.Request.TheVariants as request
-use Rattle.duk_batch.specs.Commands.{derive_item, kcv_item, pan_item, pin_item}
 use Rattle.duk_batch.specs.Item.{ItemCommand, item_command, item_of_command}
+use Rattle.duk_commands.specs.KeyArgument.{key_argument}
+use Rattle.duk_commands.specs.Pin.{pin_of}
 use Rattle.duk_program.specs.Secrets.{HasWordsAlone}
 use Rattle.duk_show.specs.Block.{IsBlockRefused, IsBlockText}
 use Rattle.duk_show.specs.Fault.{show_line}
 use Rattle.duk_show.specs.Frame.{IsFrameRefused, IsFrameText}
 use Rattle.duk_show.specs.Image.{IsImageRefused, IsImageText}
+use Rattle.duk_tools.specs.CheckValues.{values_of}
+use Rattle.duk_tools.specs.Keys.{derived_of}
 
 -- a text that stands for the lines of the input
 abbrev pub is_input : List ℕ → Bool
@@ -35,17 +38,19 @@ pub data LineItems : Type 0 where
   blocks : LineItems
   images : Bool → LineItems
 
--- the command of a line
-abbrev pub command_of_line : LineItems → List ℕ → ItemCommand
-command_of_line (numbers bdk initial trace all) line =
-    item_of_command (derive_item bdk initial trace all line)
-command_of_line keys line = item_of_command (kcv_item line)
-command_of_line (pins pan key) line = item_of_command (pin_item pan key line)
-command_of_line (pans pin key) line = item_of_command (pan_item pin key line)
-command_of_line frames line = item_command (IsFrameText line) (IsFrameRefused line) show_line
-command_of_line blocks line = item_command (IsBlockText line) (IsBlockRefused line) show_line
-command_of_line (images show) line =
-    item_command (IsImageText line show) (IsImageRefused line) show_line
+-- the command of a line, whose fault is explained or not
+abbrev pub command_of_line : Bool → LineItems → List ℕ → ItemCommand
+command_of_line explained (numbers bdk initial trace all) line =
+    item_of_command explained (derived_of (key_argument bdk initial) line trace all)
+command_of_line explained keys line = item_of_command explained (values_of (line ∷ []) false false)
+command_of_line explained (pins pan key) line = item_of_command explained (pin_of line pan key)
+command_of_line explained (pans pin key) line = item_of_command explained (pin_of pin line key)
+command_of_line explained frames line =
+    item_command explained (IsFrameText line) (IsFrameRefused line) show_line
+command_of_line explained blocks line =
+    item_command explained (IsBlockText line) (IsBlockRefused line) show_line
+command_of_line explained (images show) line =
+    item_command explained (IsImageText line show) (IsImageRefused line) show_line
 
 -- the items of `show`, of whose kind each line is a text
 abbrev pub shown_items : List ℕ → Bool → Option LineItems

@@ -1,8 +1,7 @@
 pub mod Commands
 pub mod Configured
 pub mod Explain
-pub mod Explained
-pub mod ExplainedItems
+pub mod Fault
 pub mod Find
 pub mod InputLine
 pub mod IssueFiles
@@ -17,5 +16,4 @@ pub mod Secrets
 pub mod ServeFiles
 pub mod Show
 pub mod Status
-pub mod Reported
 pub mod inner

@@ -212,6 +212,13 @@ HasMeaning held (request.CheckFrame what bdk show initial)
 HasMeaning held (request.Show kind what show)
     (request.Show kind' what' show') =
     (kind' ≡ kind) × Means held what.now what'.now × (show' ≡ show)
+HasMeaning held (request.Run config script journal) meant =
+    meant ≡ request.Run config script journal
+HasMeaning held (request.Serve config kept) meant = meant ≡ request.Serve config kept
+HasMeaning held (request.NewLog file records) meant = meant ≡ request.NewLog file records
+HasMeaning held (request.NewJournal file records) meant =
+    meant ≡ request.NewJournal file records
+HasMeaning held (request.CopyJournal old new) meant = meant ≡ request.CopyJournal old new
 HasMeaning held asked meant = ⊥
 
 -- the secrets of what is sought: the PAN of a PIN block, or the block of a ciphertext
@@ -303,15 +310,6 @@ IsWord text = reference_in text ≡ None
 -- no secret of a request is a reference
 abbrev pub HasWordsAlone : Request → Type 0
 HasWordsAlone asked = Each IsWord (secrets_of asked)
-
--- a request whose command is over secrets, and not over a configuration
-abbrev pub IsOverSecrets : Request → Type 0
-IsOverSecrets (request.Run config script journal) = ⊥
-IsOverSecrets (request.Serve config kept) = ⊥
-IsOverSecrets (request.NewLog file records) = ⊥
-IsOverSecrets (request.NewJournal file records) = ⊥
-IsOverSecrets (request.CopyJournal old new) = ⊥
-IsOverSecrets asked = Unit {0}
 
 -- the name of a secret's argument in the help
 abbrev pub secret_name : Secret → List ℕ

@@ -1,17 +1,18 @@
 -- What `serve` answers over files (this project's own).
-use Rattle.std.specs.Prelude.{◌⊎◌, ℕ, List}
+use Rattle.std.specs.Prelude.{◌≡◌, ◌⊎◌, ℕ, List}
 use Rattle.duk_arguments.specs.declared.request.Kept.{Kept}
 use Rattle.duk_arguments.specs.declared.request.Kept.TheVariants.{InJournal, InLog, InMemory}
 use Rattle.duk_config.specs.NewHost.{new_host_of}
 use Rattle.duk_config.specs.Settings.{Settings}
-use Rattle.duk_io.specs.Known.{Known}
-use Rattle.duk_io.specs.Sink.{IsUntouched}
-use Rattle.duk_program.specs.Configured.{IsConfigFaultReported, IsConfigured}
+use Rattle.duk_program.specs.Configured.{IsConfigRefused, IsConfigured}
+use Rattle.duk_program.specs.declared.fault.Fault.{Fault}
+use Rattle.duk_program.specs.declared.fault.Fault.TheVariants as fault
 use Rattle.duk_service.specs.Files.{FileKnown}
 use Rattle.duk_service.specs.LogFiles.{DiskKnown}
-use Rattle.duk_service.specs.Serve.{HasNotServed, HasServed, HasNothingServed, Serving, over_log}
+use Rattle.duk_service.specs.Serve.{HasNotServedLog, HasServedLog, HasNothingServed, Serving, over_log}
 use Rattle.duk_service.specs.ServeJournalFiles.{IsServedOnJournal, IsUnservedOnJournal}
 use Rattle.duk_service.specs.ServeLogFiles.{IsServedOnDisk, IsUnservedOnDisk}
+use Rattle.duk_service.specs.declared.serve_fault.ServeFault.{ServeFault}
 use Rattle.duk_store.specs.Disk.{DiskMeaning}
 use Rattle.duk_store.specs.MemoryLog.{memory_log_meaning, new_log}
 
@@ -28,64 +29,54 @@ kept_known disks (InLog path) = in_log (disks path.now)
 kept_known disks (InJournal path) = in_journal (disks path.now)
 
 -- what the file of a configuration holds, where the used numbers are kept, and what the reader of
--- frames and the writers of answers and of faults make known
+-- frames and the writer of answers make known
 pub record FileService (D : Type 0) : Type 0 where
   pub config_held : FileKnown
   pub kept : KeptKnown D
   pub streams : Serving
-  pub fault_before : Known
-  pub fault_after : Known
 
-abbrev pub file_service : {D : Type 0} → FileKnown → KeptKnown D → Serving → Known → Known
-    → FileService D
-file_service config_held kept streams fault_before fault_after = record {
-  config_held = config_held;
-  kept = kept;
-  streams = streams;
-  fault_before = fault_before;
-  fault_after = fault_after;
-}
+abbrev pub file_service : {D : Type 0} → FileKnown → KeptKnown D → Serving → FileService D
+file_service config_held kept streams =
+    record { config_held = config_held; kept = kept; streams = streams }
 
 -- the host of a configuration served to the end of the input, over the log or the journal of the
 -- file that is given, or, where none is, over a log in memory with the room that the configuration
 -- says
 abbrev pub IsServedOver : {D : Type 0} → DiskMeaning D → KeptKnown D → Settings → Serving → Type 0
 IsServedOver meaning in_memory config s =
-    HasServed (over_log memory_log_meaning) (new_host_of config (new_log config.log)) s
+    HasServedLog (over_log memory_log_meaning) (new_host_of config (new_log config.log)) s
 IsServedOver meaning (in_log known) config s = IsServedOnDisk meaning known config s
 IsServedOver meaning (in_journal known) config s = IsServedOnJournal meaning known config s
 
--- the same over that log, over that journal, or over a log in memory
-abbrev pub IsUnservedOver : {D : Type 0} → DiskMeaning D → KeptKnown D → Settings → Serving → Known
-    → Known → Type 0
-IsUnservedOver meaning in_memory config s reported reported' =
-    HasNotServed (over_log memory_log_meaning) (new_host_of config (new_log config.log)) s reported reported'
-IsUnservedOver meaning (in_log known) config s reported reported' =
-    IsUnservedOnDisk meaning known config s reported reported'
-IsUnservedOver meaning (in_journal known) config s reported reported' =
-    IsUnservedOnJournal meaning known config s reported reported'
+-- why it did not, over that log, over that journal, or over a log in memory
+abbrev pub IsUnservedOver : {D : Type 0} → DiskMeaning D → KeptKnown D → Settings → Serving
+    → ServeFault → Type 0
+IsUnservedOver meaning in_memory config s =
+    HasNotServedLog (over_log memory_log_meaning) (new_host_of config (new_log config.log)) s
+IsUnservedOver meaning (in_log known) config s = IsUnservedOnDisk meaning known config s
+IsUnservedOver meaning (in_journal known) config s = IsUnservedOnJournal meaning known config s
 
--- status 0: the configuration's file states one, and a host of it served to the end of the input,
--- and nothing was reported as a fault
+-- the configuration's file states one, and a host of it served to the end of the input
 pub record HasServedFiles {D : Type 0} (meaning : DiskMeaning D) (r : FileService D)
     : Type 0 where
   pub config : Settings
   pub configured : IsConfigured r.config_held config
   pub served : IsServedOver meaning r.kept config r.streams
-  pub no_fault : IsUntouched r.fault_before r.fault_after
 
--- the configuration's file states none, and that is reported
-pub record HasNoServiceConfig {D : Type 0} (r : FileService D) : Type 0 where
+-- the configuration's file states none, and nothing is read or written
+pub record HasNoServiceConfig {D : Type 0} (r : FileService D) (why : Fault) : Type 0 where
+  pub refused : IsConfigRefused r.config_held why
   pub idle : HasNothingServed r.streams
-  pub reports : IsConfigFaultReported r.config_held r.fault_before r.fault_after
 
--- the configuration's file states one, and the input is not served to its end, and that is reported
-pub record HasFailedService {D : Type 0} (meaning : DiskMeaning D) (r : FileService D)
+-- the configuration's file states one, and the input is not served to its end
+pub record HasFailedService {D : Type 0} (meaning : DiskMeaning D) (r : FileService D) (why : Fault)
     : Type 0 where
   pub config : Settings
   pub configured : IsConfigured r.config_held config
-  pub failed : IsUnservedOver meaning r.kept config r.streams r.fault_before r.fault_after
+  pub cause : ServeFault
+  pub why_is : why ≡ fault.Serve cause
+  pub failed : IsUnservedOver meaning r.kept config r.streams cause
 
--- status 1: the first of these
-abbrev pub HasNotServedFiles : {D : Type 0} → DiskMeaning D → FileService D → Type 0
-HasNotServedFiles meaning r = HasNoServiceConfig r ⊎ HasFailedService meaning r
+-- why the input is not served to its end: the first of these
+abbrev pub HasNotServedFiles : {D : Type 0} → DiskMeaning D → FileService D → Fault → Type 0
+HasNotServedFiles meaning r why = HasNoServiceConfig r why ⊎ HasFailedService meaning r why

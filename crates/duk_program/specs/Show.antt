@@ -1,15 +1,14 @@
 -- What `show` prints (this project's own, over what each kind of text says).
 use Rattle.std.specs.Prelude.{◌≡◌, ◌≢◌, ◌⊎◌, ◌^◌, ⊤, ℕ, Bool, List, None, Option, Some, codes}
-use Rattle.duk_commands.specs.Answer.{HasWriteFailed, Streams}
-use Rattle.duk_commands.specs.Fault.{report_line}
+use Rattle.duk_commands.specs.HandedOn.{HasFailed, HasHandedOn}
 use Rattle.duk_commands.specs.declared.fault.Fault.TheVariants.{WriteFailed}
 use Rattle.duk_commands.specs.declared.key_argument.KeyArgument.{KeyArgument}
 use Rattle.duk_io.specs.Known.{Known}
-use Rattle.duk_io.specs.Sink.{IsTried, IsUntouched, IsWritten}
+use Rattle.duk_io.specs.Sink.{IsCut, IsUntouched, IsWritten}
+use Rattle.duk_program.specs.declared.fault.Fault.{Fault}
+use Rattle.duk_program.specs.declared.fault.Fault.TheVariants as fault
 use Rattle.duk_service.specs.Files.{FileKnown, HasBytes, IsLongerThan, IsUnreadableFile}
-use Rattle.duk_service.specs.HandedOn.{IsFlushReported}
 use Rattle.duk_show.specs.Block.{IsBlockRefused, IsBlockText}
-use Rattle.duk_show.specs.Fault.{show_line}
 use Rattle.duk_show.specs.Frame.{IsFrameRefused, IsFrameText}
 use Rattle.duk_show.specs.CheckedFrame.{IsCheckRefused, IsCheckedText}
 use Rattle.duk_show.specs.Image.{IsImageRefused, IsImageText}
@@ -116,38 +115,37 @@ IsShowRefused arguments why =
     ⊎ (IsNoKind arguments.kind × (why ≡ KindRefused))
     ⊎ (why ≡ OutOfMemory)
 
--- status 0: the lines are written, and nothing behind them
-pub record HasShownText (arguments : ShowArguments) (s : Streams) : Type 0 where
+-- the lines are written
+pub record IsShown (arguments : ShowArguments) (old new : Known) : Type 0 where
   pub text : List ℕ
   pub asked : IsShowText arguments text
-  pub mid : Known
-  pub written : IsWritten s.output_before mid text
-  pub kept : IsUntouched mid s.output_after
-  pub no_fault : IsUntouched s.fault_before s.fault_after
+  pub written : IsWritten old new text
 
--- nothing is shown, and that is reported
-pub record HasShowFault (arguments : ShowArguments) (s : Streams) : Type 0 where
-  pub why : ShowFault
-  pub cause : IsShowRefused arguments why
-  pub no_output : IsUntouched s.output_before s.output_after
-  pub line : IsTried s.fault_before s.fault_after (show_line why)
+-- nothing is shown, for this reason
+pub record IsRefusedToShow (arguments : ShowArguments) (old : Known) (why : Fault) (new : Known)
+    : Type 0 where
+  pub cause : ShowFault
+  pub why_is : why ≡ fault.Show cause
+  pub refused : IsShowRefused arguments cause
+  pub no_output : IsUntouched old new
 
--- the lines are not written whole, and that is reported
-pub record HasShownInPart (arguments : ShowArguments) (s : Streams) : Type 0 where
+-- the lines are begun, and a write failed
+pub record IsShownInPart (arguments : ShowArguments) (old new : Known) : Type 0 where
   pub text : List ℕ
   pub asked : IsShowText arguments text
-  pub failed : HasWriteFailed text s
+  pub cut : IsCut old new text
 
--- the lines are written, and could not be handed on, and that is reported
-pub record HasLostShown (arguments : ShowArguments) (s : Streams) : Type 0 where
-  pub text : List ℕ
-  pub asked : IsShowText arguments text
-  pub mid : Known
-  pub written : IsWritten s.output_before mid text
-  pub reported : IsFlushReported (report_line WriteFailed) mid s.output_after
-      s.fault_before s.fault_after
+-- why the lines are not written
+abbrev pub IsNotShown : ShowArguments → Known → Fault → Known → Type 0
+IsNotShown arguments old why new =
+    IsRefusedToShow arguments old why new
+    ⊎ ((why ≡ fault.Command WriteFailed) × IsShownInPart arguments old new)
 
--- status 1
-abbrev pub HasNotShownText : ShowArguments → Streams → Type 0
-HasNotShownText arguments s =
-    HasShowFault arguments s ⊎ HasShownInPart arguments s ⊎ HasLostShown arguments s
+-- the lines are written, and handed on
+abbrev pub HasShownText : ShowArguments → Known → Known → Type 0
+HasShownText arguments old = HasHandedOn (IsShown arguments old)
+
+-- why they are not
+abbrev pub HasNotShownText : ShowArguments → Known → Fault → Known → Type 0
+HasNotShownText arguments old =
+    HasFailed (IsShown arguments old) (IsNotShown arguments old) (fault.Command WriteFailed)

@@ -1,14 +1,15 @@
-//! Does the command of a request.
+//! Does the command of a request over its arguments alone.
 
-ghost use Rattle.std.specs.Prelude.{◌≡◌, ◌⊎◌, ◌||◌, IfErr, IfOk};
-ghost use Rattle.duk_commands.specs.Answer.{IsDone, IsNotDone, streams};
-ghost use Rattle.duk_program.specs.Commands.{command_for, derive_for};
-ghost use Rattle.duk_program.specs.inner.Commands.{MakesLines, NeedsNoFile};
+ghost use Rattle.std.specs.Prelude.{◌≡◌, IfErr, IfOk, OnOk};
+ghost use Rattle.duk_commands.specs.Answer.{IsDone, IsNotDone};
+ghost use Rattle.duk_io.specs.Sink.{IsHandedOn};
+ghost use Rattle.duk_program.specs.Commands.{IsCommandDone, IsCommandNotDone, command_for};
+ghost use Rattle.duk_program.specs.inner.Commands.{IsOverArguments, MakesLines};
 
+use crate::fault::Fault;
 use duk_arguments::Request;
 use duk_commands::{
-    Fault, KeyArgument, Lines, derive_command, finish, pin_command, unwrap_command, walk_command,
-    wrap_command,
+    KeyArgument, Lines, hand_on, pin_lines, unwrap_lines, walk_command, wrap_line, write_lines,
 };
 use duk_io::Sink;
 use duk_tools::{
@@ -17,22 +18,60 @@ use duk_tools::{
 };
 use std::alloc::Global;
 
-/// Does the command of a request that needs no file, and gives the status: 0, or 1 with a line on
-/// `fault`.
-pub(crate) fn do_command<W: Sink, F: Sink>(
+/// Does the command of a request over its arguments alone, and hands on what it writes.
+pub(crate) fn do_command<W: Sink>(
     alloc: Global,
     request: Request<'_>,
     output: &mut W,
-    fault: &mut F,
-) -> u8
-    requires { NeedsNoFile request }
-    ensures status { (result ≡ 0) ⊎ (result ≡ 1) }
-    ensures done { result ≡ 0 → IsDone (command_for request.entry)
-        (streams (W.known output.old) (W.known output.new)
-        (F.known fault.old) (F.known fault.new)) }
-    ensures not_done { result ≡ 1 → IsNotDone (command_for request.entry)
-        (streams (W.known output.old) (W.known output.new)
-        (F.known fault.old) (F.known fault.new)) }
+) -> Result<(), Fault>
+    requires { IsOverArguments request }
+    ensures done { OnOk result
+        (IsCommandDone request.entry (W.known output.old) (W.known output.new)) }
+    ensures handed_on { OnOk result (IsHandedOn (W.held_back output.new)) }
+    ensures not_done { IfErr result (λ why.
+        IsCommandNotDone request.entry (W.known output.old) why (W.known output.new)) }
+{
+    let ended = write_command(alloc, request, output);
+    match hand_on(ended, duk_commands::Fault::WriteFailed, output) {
+        Ok(()) => Ok(()),
+        Err(why) => Err(Fault::Command(why)),
+    }
+}
+
+/// The same, but what is written may still be held back.
+fn write_command<W: Sink>(
+    alloc: Global,
+    request: Request<'_>,
+    output: &mut W,
+) -> Result<(), duk_commands::Fault>
+    requires { IsOverArguments request }
+    ensures done { OnOk result
+        (IsDone (command_for request.entry) (W.known output.old) (W.known output.new)) }
+    ensures not_done { IfErr result (λ why.
+        IsNotDone (command_for request.entry) why (W.known output.old) (W.known output.new)) }
+{
+    duk_io::laws::writes();
+    if let Request::Walk {
+        bdk,
+        iksn,
+        count,
+        skip,
+        alone,
+        initial,
+    } = request
+    {
+        let key = KeyArgument::new(bdk, initial);
+        return walk_command(key, iksn, count, skip, alone, output);
+    }
+    let lines = lines_of(alloc, request)?;
+    write_lines(&lines, output)
+}
+
+/// The lines of a command that makes them all before it writes, or why it is refused.
+fn lines_of(alloc: Global, request: Request<'_>) -> Result<Lines, duk_commands::Fault>
+    requires { MakesLines request }
+    ensures lines { IfOk result (λ lines. (command_for request.entry).writes lines.items) }
+    ensures refused { IfErr result (command_for request.entry).refuses }
 {
     match request {
         Request::Derive {
@@ -41,38 +80,15 @@ pub(crate) fn do_command<W: Sink, F: Sink>(
             initial,
             trace,
             all,
-        } => do_derive(bdk, ksn, initial, trace, all, output, fault),
-        Request::Walk {
-            bdk,
-            iksn,
-            count,
-            skip,
-            alone,
-            initial,
-        } => {
-            let key = KeyArgument::new(bdk, initial);
-            walk_command(key, iksn, count, skip, alone, output, fault)
-        }
-        Request::Pin { pin, pan, key } => pin_command(pin, pan, key, output, fault),
+        } => derived_lines(KeyArgument::new(bdk, initial), ksn, trace, all),
+        Request::Pin { pin, pan, key } => pin_lines(pin, pan, key),
         Request::Wrap {
             kbpk,
             fields,
             key,
             pad,
-        } => wrap_command(kbpk, fields, key, pad, output, fault),
-        Request::Unwrap { kbpk, block } => unwrap_command(kbpk, block, output, fault),
-        request => finish(lines_of(alloc, request), output, fault),
-    }
-}
-
-/// The lines of a command that makes them all before it writes, or why it is refused.
-fn lines_of(alloc: Global, request: Request<'_>) -> Result<Lines, Fault>
-    requires { MakesLines request }
-    ensures lines { IfOk result (λ lines. (command_for request.entry).writes lines.items) }
-    ensures begun { IfOk result (λ lines. (command_for request.entry).begins lines.items) }
-    ensures refused { IfErr result (command_for request.entry).refuses }
-{
-    match request {
+        } => wrap_line(kbpk, fields, key, pad),
+        Request::Unwrap { kbpk, block } => unwrap_lines(kbpk, block),
         Request::Initial { bdk, iksn } => initial_lines(bdk, iksn),
         Request::Registers { bdk, ksn, initial } => {
             registers_lines(KeyArgument::new(bdk, initial), ksn)
@@ -131,37 +147,4 @@ fn lines_of(alloc: Global, request: Request<'_>) -> Result<Lines, Fault>
         } => reply_lines(alloc, KeyArgument::new(bdk, initial), request, answer),
         _ => unreachable!(),
     }
-}
-
-/// Does `derive`, by its options: whether the key is an initial key, whether the steps are printed,
-/// and whether the keys of MACs and of data are.
-fn do_derive<W: Sink, F: Sink>(
-    bdk: &str,
-    ksn: &str,
-    initial: bool,
-    trace: bool,
-    all: bool,
-    output: &mut W,
-    fault: &mut F,
-) -> u8
-    ensures status { (result ≡ 0) ⊎ (result ≡ 1) }
-    ensures done { result ≡ 0 → IsDone (derive_for bdk.entry ksn.now initial trace all)
-        (streams (W.known output.old) (W.known output.new)
-        (F.known fault.old) (F.known fault.new)) }
-    ensures not_done { result ≡ 1 → IsNotDone (derive_for bdk.entry ksn.now initial trace all)
-        (streams (W.known output.old) (W.known output.new)
-        (F.known fault.old) (F.known fault.new)) }
-{
-    if has_option(initial, trace, all) {
-        let lines = derived_lines(KeyArgument::new(bdk, initial), ksn, trace, all);
-        return finish(lines, output, fault);
-    }
-    derive_command(bdk, ksn, output, fault)
-}
-
-/// Whether `derive` has an option.
-fn has_option(initial: bool, trace: bool, all: bool) -> bool
-    ensures { result ≡ (initial || trace || all) }
-{
-    initial || trace || all
 }

@@ -1,23 +1,22 @@
-//! Finds what the arguments ask for, and does it unless it needs files.
+//! The command of the arguments, where it needs neither files nor the input.
 
-ghost use Rattle.std.specs.Prelude.{◌≡◌, ◌⊎◌, ℕ, IsFalse, List};
+ghost use Rattle.std.specs.Prelude.{◌≡◌, ◌⊎◌, IfErr, IfOk, IsFalse, IsTrue, OnOk};
 ghost use Rattle.std.specs.Io.KnownBytes.{Keeps};
-ghost use Rattle.duk_commands.specs.Answer.{IsDone, IsNotDone, streams};
-ghost use Rattle.duk_commands.specs.Fault.{IsFaultReported};
-ghost use Rattle.duk_io.specs.Sink.{IsHandedOn, IsUntouched};
-ghost use Rattle.duk_program.specs.Commands.{HasLostCommandOutput, HasShown, IsCommandLineDone, IsNotShown, IsCommandLineFailed, command_for};
+ghost use Rattle.duk_arguments.specs.Asked.{AreRefused, texts_of};
+ghost use Rattle.duk_commands.specs.Answer.{streams};
+ghost use Rattle.duk_io.specs.Sink.{IsUntouched};
+ghost use Rattle.duk_program.specs.Commands.{IsCommandDone};
 ghost use Rattle.duk_program.specs.Items.{IsAtOnce};
-ghost use Rattle.duk_program.specs.Status.{EndsWith, IsLeftToDo, IsStatus, IsToRun, RunsAsked};
-ghost use Rattle.duk_program.specs.inner.Status.{RunsRequest};
-ghost use Rattle.duk_arguments.specs.Asked.{AreRefused, IsNoRequestOf, texts_of};
+ghost use Rattle.duk_program.specs.Status.{EndsWith, HasEnded, HasNotEnded, IsLeftToDo, IsToRun, RunsAsked};
+ghost use Rattle.duk_program.specs.inner.Commands.{IsOverArguments};
+ghost use Rattle.duk_program.specs.inner.Status.{HasToldCommand, RunsRequest};
 
 use crate::commands::do_command;
 use crate::items::line_command;
 use crate::references::has_reference;
-use duk_arguments::{Kept, NoRequest, Request, read_request};
-use duk_commands::{Fault, report};
-use duk_io::{Sink, write_text};
-use duk_service::hand_on;
+use crate::shown::show;
+use duk_arguments::{Kept, Request, read_request};
+use duk_io::Sink;
 use std::alloc::Global;
 
 /// What is left to do when the arguments are dealt with.
@@ -42,31 +41,8 @@ pub enum Todo<'a> {
         /// Where the used numbers are kept.
         kept: Kept<'a>,
     },
-    /// To make a new log. Nothing is written yet.
-    NewLog {
-        /// The path of the log.
-        file: &'a str,
-        /// For how many numbers it has room, as written.
-        records: &'a str,
-    },
-    /// To make a new journal. Nothing is written yet.
-    NewJournal {
-        /// The path of the journal.
-        file: &'a str,
-        /// For how many payments it has room, as written.
-        records: &'a str,
-    },
-    /// To copy what a journal keeps into a new one. Nothing is written yet.
-    CopyJournal {
-        /// The path of the journal.
-        old: &'a str,
-        /// The path of the copy.
-        new: &'a str,
-    },
-    /// To do a command that needs files or the input, or has faults of its own: `show`, `issue`,
-    /// `find`, one with a secret that is given by reference, or one over the lines of the input.
-    /// Nothing is written yet.
-    Read(Request<'a>),
+    /// To do another request that needs files or the input. Nothing is written yet.
+    Do(Request<'a>),
 }
 
 /// Does what the arguments ask, the first of which is the program's name. What needs files or
@@ -82,53 +58,17 @@ pub fn command<'a, W: Sink, F: Sink>(
     fault: &mut F,
 ) -> Todo<'a>
     ensures status { IsLeftToDo result }
-    ensures no_fault { EndsWith result 0 → IsUntouched (F.known fault.old) (F.known fault.new) }
-    ensures handed_on { EndsWith result 0 → IsHandedOn (W.held_back output.new) }
-    ensures fault { EndsWith result 1 → IsFaultReported (F.known fault.old) (F.known fault.new) }
     ensures refused { EndsWith result 2
         → Keeps (W.known output.old).contents (W.known output.new).contents }
     ensures arguments_refused { EndsWith result 2 → AreRefused (texts_of arguments.now) }
-    ensures done { EndsWith result 0 → IsCommandLineDone (texts_of arguments.now)
+    ensures done { EndsWith result 0 → HasEnded (texts_of arguments.now)
         (streams (W.known output.old) (W.known output.new)
         (F.known fault.old) (F.known fault.new)) }
-    ensures not_done { EndsWith result 1 → IsCommandLineFailed (texts_of arguments.now)
+    ensures not_done { EndsWith result 1 → HasNotEnded (texts_of arguments.now)
         (streams (W.known output.old) (W.known output.new)
         (F.known fault.old) (F.known fault.new)) }
     ensures asked { RunsAsked (texts_of arguments.now) result }
     ensures quiet { IsToRun result → W.known output.new ≡ W.known output.old }
-    ensures held_back { IsToRun result → W.held_back output.new ≡ W.held_back output.old }
-    ensures silent { IsToRun result → F.known fault.new ≡ F.known fault.old }
-{
-    duk_io::laws::writes();
-    match dispatch_arguments(alloc, arguments, output, fault) {
-        Todo::Exit(0) => Todo::Exit(hand_on(&Fault::WriteFailed, output, fault)),
-        todo => todo,
-    }
-}
-
-/// Does what the arguments ask and reports what is left to do; what is printed may still be held
-/// back.
-fn dispatch_arguments<'a, W: Sink, F: Sink>(
-    alloc: Global,
-    arguments: &'a [String],
-    output: &mut W,
-    fault: &mut F,
-) -> Todo<'a>
-    ensures status { IsLeftToDo result }
-    ensures no_fault { EndsWith result 0 → IsUntouched (F.known fault.old) (F.known fault.new) }
-    ensures fault { EndsWith result 1 → IsFaultReported (F.known fault.old) (F.known fault.new) }
-    ensures refused { EndsWith result 2
-        → Keeps (W.known output.old).contents (W.known output.new).contents }
-    ensures arguments_refused { EndsWith result 2 → AreRefused (texts_of arguments.now) }
-    ensures done { EndsWith result 0 → IsCommandLineDone (texts_of arguments.now)
-        (streams (W.known output.old) (W.known output.new)
-        (F.known fault.old) (F.known fault.new)) }
-    ensures not_done { EndsWith result 1 → IsCommandLineFailed (texts_of arguments.now)
-        (streams (W.known output.old) (W.known output.new)
-        (F.known fault.old) (F.known fault.new)) }
-    ensures asked { RunsAsked (texts_of arguments.now) result }
-    ensures quiet { IsToRun result → W.known output.new ≡ W.known output.old }
-    ensures held_back { IsToRun result → W.held_back output.new ≡ W.held_back output.old }
     ensures silent { IsToRun result → F.known fault.new ≡ F.known fault.old }
 {
     match read_request(alloc, arguments) {
@@ -137,8 +77,8 @@ fn dispatch_arguments<'a, W: Sink, F: Sink>(
     }
 }
 
-/// Does the command of a request, where that needs neither files nor the input, and reports what is
-/// left to do.
+/// Does the command of a request, where that needs neither files nor the input, and gives what is left
+/// to do.
 fn do_request<'a, W: Sink, F: Sink>(
     alloc: Global,
     request: Request<'a>,
@@ -146,19 +86,15 @@ fn do_request<'a, W: Sink, F: Sink>(
     fault: &mut F,
 ) -> Todo<'a>
     ensures status { IsLeftToDo result }
-    ensures no_fault { EndsWith result 0 → IsUntouched (F.known fault.old) (F.known fault.new) }
-    ensures fault { EndsWith result 1 → IsFaultReported (F.known fault.old) (F.known fault.new) }
     ensures not_refused { ¬ EndsWith result 2 }
-    ensures at_once { (status : ℕ) → EndsWith result status → IsAtOnce request.entry }
-    ensures done { EndsWith result 0 → IsDone (command_for request.entry)
-        (streams (W.known output.old) (W.known output.new)
-        (F.known fault.old) (F.known fault.new)) }
-    ensures not_done { EndsWith result 1 → IsNotDone (command_for request.entry)
-        (streams (W.known output.old) (W.known output.new)
+    ensures done { EndsWith result 0 → IsAtOnce request.entry
+        × IsCommandDone request.entry (W.known output.old) (W.known output.new)
+        × IsUntouched (F.known fault.old) (F.known fault.new) }
+    ensures not_done { EndsWith result 1 → IsAtOnce request.entry
+        × HasToldCommand request.entry (streams (W.known output.old) (W.known output.new)
         (F.known fault.old) (F.known fault.new)) }
     ensures asked { RunsRequest request.entry result }
     ensures quiet { IsToRun result → W.known output.new ≡ W.known output.old }
-    ensures held_back { IsToRun result → W.held_back output.new ≡ W.held_back output.old }
     ensures silent { IsToRun result → F.known fault.new ≡ F.known fault.old }
 {
     match request {
@@ -172,76 +108,66 @@ fn do_request<'a, W: Sink, F: Sink>(
             journal,
         },
         Request::Serve { config, kept } => Todo::Serve { config, kept },
-        Request::NewLog { file, records } => Todo::NewLog { file, records },
-        Request::NewJournal { file, records } => Todo::NewJournal { file, records },
-        Request::CopyJournal { old, new } => Todo::CopyJournal { old, new },
-        Request::Show { .. }
-        | Request::CheckFrame { .. }
-        | Request::Find { .. }
-        | Request::Issue { .. } => Todo::Read(request),
-        request if is_left(&request) => Todo::Read(request),
-        request => Todo::Exit(do_command(alloc, request, output, fault)),
+        request if is_left(&request) => Todo::Do(request),
+        request => Todo::Exit(end_command(alloc, request, output, fault)),
     }
 }
 
-/// Whether a request needs files or the input, of those whose commands are over their arguments.
-fn is_left(request: &Request<'_>) -> bool
-    ensures { IsFalse result → IsAtOnce request.now }
-{
-    has_reference(request) || line_command(request).is_some()
-}
-
-/// Writes what stands in place of a request, hands it on, and gives the status.
-pub(crate) fn show_at_end<W: Sink, F: Sink>(answer: &NoRequest, output: &mut W, fault: &mut F) -> u8
-    ensures status { IsStatus result }
+/// Does the command of a request over its arguments alone, and gives the status: 0, or 1 with the line
+/// of a fault.
+fn end_command<W: Sink, F: Sink>(
+    alloc: Global,
+    request: Request<'_>,
+    output: &mut W,
+    fault: &mut F,
+) -> u8
+    requires { IsOverArguments request }
+    ensures status { (result ≡ 0) ⊎ (result ≡ 1) }
+    ensures done { result ≡ 0
+        → IsCommandDone request.entry (W.known output.old) (W.known output.new) }
     ensures no_fault { result ≡ 0 → IsUntouched (F.known fault.old) (F.known fault.new) }
-    ensures handed_on { result ≡ 0 → IsHandedOn (W.held_back output.new) }
-    ensures refused { result ≡ 2
-        → Keeps (W.known output.old).contents (W.known output.new).contents }
-    ensures arguments_refused { (arguments : List (List ℕ)) → IsNoRequestOf arguments answer.now → result ≡ 2
-        → AreRefused arguments }
-    ensures shown { (arguments : List (List ℕ)) → IsNoRequestOf arguments answer.now → result ≡ 0
-        → HasShown arguments (streams (W.known output.old) (W.known output.new)
-        (F.known fault.old) (F.known fault.new)) }
-    ensures not_shown { (arguments : List (List ℕ)) → IsNoRequestOf arguments answer.now → result ≡ 1
-        → IsNotShown arguments (streams (W.known output.old) (W.known output.new)
-        (F.known fault.old) (F.known fault.new))
-        ⊎ HasLostCommandOutput arguments (streams (W.known output.old) (W.known output.new)
+    ensures not_done { result ≡ 1 → HasToldCommand request.entry
+        (streams (W.known output.old) (W.known output.new)
         (F.known fault.old) (F.known fault.new)) }
 {
     duk_io::laws::writes();
-    match show(answer, output, fault) {
-        0 => hand_on(&Fault::WriteFailed, output, fault),
-        status => status,
-    }
-}
-
-/// Writes what stands in place of a request, and gives the status.
-fn show<W: Sink, F: Sink>(answer: &NoRequest, output: &mut W, fault: &mut F) -> u8
-    ensures status { IsStatus result }
-    ensures no_fault { result ≡ 0 → IsUntouched (F.known fault.old) (F.known fault.new) }
-    ensures fault { result ≡ 1 → IsFaultReported (F.known fault.old) (F.known fault.new) }
-    ensures refused { result ≡ 2
-        → Keeps (W.known output.old).contents (W.known output.new).contents }
-    ensures arguments_refused { (arguments : List (List ℕ)) → IsNoRequestOf arguments answer.now → result ≡ 2
-        → AreRefused arguments }
-    ensures shown { (arguments : List (List ℕ)) → IsNoRequestOf arguments answer.now → result ≡ 0
-        → HasShown arguments (streams (W.known output.old) (W.known output.new)
-        (F.known fault.old) (F.known fault.new)) }
-    ensures not_shown { (arguments : List (List ℕ)) → IsNoRequestOf arguments answer.now → result ≡ 1
-        → IsNotShown arguments (streams (W.known output.old) (W.known output.new)
-        (F.known fault.old) (F.known fault.new)) }
-{
-    duk_io::laws::writes();
-    match answer {
-        NoRequest::NoMemory => report(fault, Fault::OutOfMemory),
-        NoRequest::Refused(text) => {
-            let _ = write_text(fault, text.as_bytes());
-            2
+    match do_command(alloc, request, output) {
+        Ok(()) => 0,
+        Err(why) => {
+            why.tell(fault);
+            1
         }
-        NoRequest::Help(text) => match write_text(output, text.as_bytes()) {
-            Ok(()) => 0,
-            Err(_) => report(fault, Fault::WriteFailed),
-        },
+    }
+}
+
+/// Whether a request needs files or the input.
+fn is_left(request: &Request<'_>) -> bool
+    ensures over { IsFalse result → IsOverArguments request.now }
+    ensures at_once { IsFalse result → IsAtOnce request.now }
+{
+    !is_over_arguments(request) || has_reference(request) || line_command(request).is_some()
+}
+
+/// Whether the command of a request is one over its arguments alone.
+fn is_over_arguments(request: &Request<'_>) -> bool
+    ensures { IsTrue result → IsOverArguments request.now }
+{
+    match request {
+        Request::Derive { .. }
+        | Request::Walk { .. }
+        | Request::Pin { .. }
+        | Request::Wrap { .. }
+        | Request::Unwrap { .. }
+        | Request::Initial { .. }
+        | Request::Registers { .. }
+        | Request::Kcv { .. }
+        | Request::Mac { .. }
+        | Request::Data { .. }
+        | Request::Unpin { .. }
+        | Request::Translate { .. }
+        | Request::MakeRequest { .. }
+        | Request::MakeReversal { .. }
+        | Request::CheckReply { .. } => true,
+        _ => false,
     }
 }

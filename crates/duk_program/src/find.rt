@@ -1,15 +1,16 @@
 //! The command `find`.
 
-ghost use Rattle.std.specs.Prelude.{◌≡◌, ◌⊎◌, IfErr, IfNone, IfSome, IsOk};
+ghost use Rattle.std.specs.Prelude.{◌≡◌, IfErr, OnOk};
 ghost use Rattle.std.specs.Option.{option_copied};
 ghost use Rattle.duk_arguments.specs.Given.{first_in};
 ghost use Rattle.duk_commands.specs.Answer.{streams};
 ghost use Rattle.duk_io.specs.Sink.{IsHandedOn};
-ghost use Rattle.duk_program.specs.Find.{IsFindNotDone, IsFindUndone, IsSearch, IsSearchWith, clue_for, find_for};
+ghost use Rattle.duk_program.specs.Find.{HasFoundIt, HasNotFoundIt, clue_for, find_for};
 ghost use Rattle.duk_tools.specs.Find.{IsFindDone, IsFindFailed};
 
-use duk_arguments::{Request, Sought};
-use duk_commands::KeyArgument;
+use crate::fault::Fault;
+use duk_arguments::Sought;
+use duk_commands::{KeyArgument, hand_on};
 use duk_io::Sink;
 use duk_tools::{Clue, FindFault, find_command};
 use std::alloc::Global;
@@ -29,72 +30,26 @@ pub(crate) struct FindWords<'a> {
     pub(crate) initial: bool,
 }
 
-/// Those of a request, where it is a search.
-pub(crate) fn find_words_in<'a>(request: &Request<'a>) -> Option<FindWords<'a>>
-    ensures words { IfSome result (λ words. IsSearchWith request.now (find_for words.bdk words.what
-        words.sought words.window words.initial)) }
-    ensures none { IfNone result (¬ IsSearch request.now) }
-{
-    match *request {
-        Request::Find {
-            bdk,
-            what,
-            sought,
-            window,
-            initial,
-        } => Some(FindWords {
-            bdk,
-            what,
-            sought,
-            window,
-            initial,
-        }),
-        _ => None,
-    }
-}
-
-/// Prints the number and the key that made what is sought, hands that on, and gives the status: 0, or
-/// 1 with a line on `fault`. A long search tells its progress there.
+/// Prints the number and the key that made what is sought, and hands that on. A long search tells its
+/// progress on `fault`.
 pub(crate) fn find_made<W: Sink, F: Sink>(
     alloc: Global,
     words: &FindWords<'_>,
     output: &mut W,
     fault: &mut F,
-) -> u8
-    ensures status { (result ≡ 0) ⊎ (result ≡ 1) }
-    ensures handed_on { result ≡ 0 → IsHandedOn (W.held_back output.new) }
-    ensures done { result ≡ 0 → IsFindDone (find_for words.now.bdk words.now.what words.now.sought
+) -> Result<(), Fault>
+    ensures done { OnOk result (HasFoundIt (find_for words.now.bdk words.now.what words.now.sought
         words.now.window words.now.initial) (streams (W.known output.old) (W.known output.new)
-        (F.known fault.old) (F.known fault.new)) }
-    ensures not_done { result ≡ 1 → IsFindNotDone (find_for words.now.bdk words.now.what
+        (F.known fault.old) (F.known fault.new))) }
+    ensures handed_on { OnOk result (IsHandedOn (W.held_back output.new)) }
+    ensures not_done { IfErr result (HasNotFoundIt (find_for words.now.bdk words.now.what
         words.now.sought words.now.window words.now.initial) (streams (W.known output.old)
-        (W.known output.new) (F.known fault.old) (F.known fault.new)) }
-{
-    match find_unreported(alloc, words, output, fault) {
-        Ok(()) => 0,
-        Err(why) => why.report(fault),
-    }
-}
-
-/// The same, but the fault is not reported yet.
-pub(crate) fn find_unreported<W: Sink, F: Sink>(
-    alloc: Global,
-    words: &FindWords<'_>,
-    output: &mut W,
-    fault: &mut F,
-) -> Result<(), FindFault>
-    ensures handed_on { IsOk result → IsHandedOn (W.held_back output.new) }
-    ensures done { IsOk result → IsFindDone (find_for words.now.bdk words.now.what words.now.sought
-        words.now.window words.now.initial) (streams (W.known output.old) (W.known output.new)
-        (F.known fault.old) (F.known fault.new)) }
-    ensures undone { IfErr result (λ why. IsFindUndone (find_for words.now.bdk words.now.what
-        words.now.sought words.now.window words.now.initial) why (streams (W.known output.old)
         (W.known output.new) (F.known fault.old) (F.known fault.new))) }
 {
-    find_written(alloc, words, output, fault)?;
-    match output.flush() {
+    let ended = find_written(alloc, words, output, fault);
+    match hand_on(ended, FindFault::WriteFailed, output) {
         Ok(()) => Ok(()),
-        Err(_) => Err(FindFault::WriteFailed),
+        Err(why) => Err(Fault::Find(why)),
     }
 }
 
@@ -105,9 +60,9 @@ fn find_written<W: Sink, F: Sink>(
     output: &mut W,
     fault: &mut F,
 ) -> Result<(), FindFault>
-    ensures done { IsOk result → IsFindDone (find_for words.now.bdk words.now.what words.now.sought
+    ensures done { OnOk result (IsFindDone (find_for words.now.bdk words.now.what words.now.sought
         words.now.window words.now.initial) (streams (W.known output.old) (W.known output.new)
-        (F.known fault.old) (F.known fault.new)) }
+        (F.known fault.old) (F.known fault.new))) }
     ensures failed { IfErr result (λ why. IsFindFailed (find_for words.now.bdk words.now.what
         words.now.sought words.now.window words.now.initial) why (streams (W.known output.old)
         (W.known output.new) (F.known fault.old) (F.known fault.new))) }

@@ -1,35 +1,25 @@
 //! The command `issue` over the file of its ledger.
 
-ghost use Rattle.std.specs.Prelude.{◌≡◌, ◌⊎◌, ◌*◌, ◌≤◌, IfErr, IfOk, IfSome, length};
+ghost use Rattle.std.specs.Prelude.{◌≡◌, ◌*◌, ◌≤◌, IfErr, IfOk, IfSome, OnOk, length};
 ghost use Rattle.std.specs.Option.{option_copied};
 ghost use Rattle.duk_commands.specs.Answer.{streams};
-ghost use Rattle.duk_io.specs.Sink.{IsHandedOn, IsTried, IsUntouched};
-ghost use Rattle.duk_issue.specs.Fault.{issue_line};
+ghost use Rattle.duk_io.specs.Sink.{IsHandedOn};
 ghost use Rattle.duk_issue.specs.Issue.{ends};
 ghost use Rattle.duk_issue.specs.Order.{IsOrderOf, IsOrderRefused};
-ghost use Rattle.duk_issue.specs.declared.fault.IssueFault.{IssueFault};
 ghost use Rattle.duk_service.specs.Files.{IsFrontRead};
-ghost use Rattle.duk_service.specs.HandedOn.{IsFlushReported};
-ghost use Rattle.duk_program.specs.IssueFiles.{HasIssuedFiles, HasMadeLines, HasNotIssuedFiles, HasNotMadeLines, IsIssuedOver, IsIssuedTo, IsIssuedToFile, IsLedgerOpened, IsLedgerUnopened, IsNotIssuedOver, IsNotIssuedTo, IsNotIssuedToFile, IsNoted, IsPaddingRefused, if_issued_in, issue_files_known, issuing, order_in, random_device};
+ghost use Rattle.duk_program.specs.IssueFiles.{HasIssuedFiles, HasMadeLines, HasNotIssuedFiles, HasNotMadeLines, IsIssuedOver, IsIssuedTo, IsIssuedToFile, IsLedgerOpened, IsLedgerUnopened, IsNotIssuedOver, IsNotIssuedTo, IsNoted, IsNotIssuedToFile, IsPaddingRefused, if_issued_in, issue_files_known, issuing, order_in, random_device};
 ghost use Rattle.duk_program.specs.inner.IssueFiles.{task_of};
 
 use duk_arguments::IssueWay;
+use duk_commands::hand_on;
 use duk_io::Sink;
-use duk_issue::{IssueFault, Order, PADDING_LENGTH, issue, issue_again, note_passed_over, report};
-use duk_service::{
-    Access, EndingFault, FileFault, FileSystem, LogFiles, OpenFault, RecordFormat, hand_on,
-    open_own, report_after,
-};
+use duk_issue::{IssueFault, Order, PADDING_LENGTH, issue, issue_again, note_passed_over};
+use duk_service::{Access, FileFault, FileSystem, LogFiles, OpenFault, RecordFormat, open_own};
 use duk_store::{DiskLog, UsedLog};
 use std::alloc::Global;
 
 /// The system's random device.
 const RANDOM: &str = "/dev/urandom";
-
-/// The fault where lines could not be handed on.
-const LOST: IssueEnding = IssueEnding {
-    why: IssueFault::WriteFailed,
-};
 
 /// The arguments of `issue`, as written, beside the path of its ledger.
 #[derive(Clone, Copy)]
@@ -74,30 +64,15 @@ pub(crate) struct Task<'a> {
     padding: &'a [u8],
 }
 
-/// A fault with which `issue` ends.
-#[derive(Clone, Copy)]
-struct IssueEnding {
-    /// Why it ends.
-    why: IssueFault,
-}
-
-impl EndingFault for IssueEnding {
-    ghost line = { λ ending. issue_line ending.why };
-
-    fn report<F: Sink>(&self, fault: &mut F) -> u8 {
-        report(fault, self.why)
-    }
-}
-
 /// Issues the initial keys that the arguments ask for, or makes their lines again, over the ledger in
-/// the file under a path, and gives the status: 0, or 1 with a line on `fault`. The lines go to
-/// `output`, or to a new file, where each is kept before the next number is. How many numbers were
-/// passed over stands on `fault` where there are any.
+/// the file under a path. The lines go to `output`, or to a new file, where each is kept before the
+/// next number is. How many numbers were passed over stands on `fault` where there are any.
 ///
 /// The faults, in this order: `BDK refused`, `loading refused`, `IKSN refused`, `count refused`, `KCV
 /// refused`, `KCV differs`; `padding: cannot read`, where the system gives no random bytes; `ledger:
 /// cannot open`, `ledger: failed` and `ledger: damaged`, where its bytes are none that a ledger
-/// leaves; `out: cannot make`; then those of `duk_issue::issue` or `duk_issue::issue_again`.
+/// leaves; `out: cannot make`; then those of `duk_issue::issue` or `duk_issue::issue_again`. `write
+/// failed` stands in place of any behind which lines could not be handed on.
 pub(crate) fn issue_files<S: FileSystem + LogFiles, W: Sink, F: Sink>(
     alloc: Global,
     files: &S,
@@ -105,52 +80,44 @@ pub(crate) fn issue_files<S: FileSystem + LogFiles, W: Sink, F: Sink>(
     ledger: &str,
     output: &mut W,
     fault: &mut F,
-) -> u8
+) -> Result<(), IssueFault>
     requires write { S.may_write files.now ledger.now }
     requires make { IfSome (option_copied arguments.now.way.out) (S.may_make files.now) }
-    ensures status { (result ≡ 0) ⊎ (result ≡ 1) }
-    ensures handed_on { result ≡ 0 → IsHandedOn (W.held_back output.new) }
-    ensures handed_on_at_fault { result ≡ 1 → IsHandedOn (W.held_back output.old)
-        → IsHandedOn (W.held_back output.new)
-        ⊎ IsTried (F.known fault.old) (F.known fault.new) (issue_line IssueFault.WriteFailed) }
-    ensures done { result ≡ 0 → HasIssuedFiles S.Disk.meaning
+    ensures done { OnOk result (HasIssuedFiles S.Disk.meaning
         (issue_files_known (S.held files.now) (S.disks files.now ledger.now) (S.making files.now))
         arguments.now (streams (W.known output.old) (W.known output.new)
-        (F.known fault.old) (F.known fault.new)) }
-    ensures not_done { result ≡ 1 → HasNotIssuedFiles S.Disk.meaning
+        (F.known fault.old) (F.known fault.new))) }
+    ensures handed_on { OnOk result (IsHandedOn (W.held_back output.new)) }
+    ensures not_done { IfErr result (HasNotIssuedFiles S.Disk.meaning
         (issue_files_known (S.held files.now) (S.disks files.now ledger.now) (S.making files.now))
         arguments.now (streams (W.known output.old) (W.known output.new)
-        (F.known fault.old) (F.known fault.new)) }
+        (F.known fault.old) (F.known fault.new))) }
 {
     duk_io::laws::writes();
-    let order = match read_order(arguments) {
-        Ok(order) => order,
-        Err(why) => return report(fault, why),
-    };
+    let order = read_order(arguments)?;
     let padding = match read_padding(alloc, files, order.count) {
         Ok(padding) => padding,
-        Err(why) => return report(fault, why),
+        Err(why) => return Err(why),
     };
-    match open_ledger(files, ledger) {
-        Ok(disk) => {
-            let task = Task {
-                order: &order,
-                if_issued: IfIssued::by(&arguments.way),
-                padding: padding.as_slice(),
-            };
-            let ledger = DiskLog::new(disk);
-            issue_to(
-                alloc,
-                files,
-                &task,
-                arguments.way.out,
-                ledger,
-                output,
-                fault,
-            )
-        }
-        Err(why) => report(fault, why),
-    }
+    let disk = match open_ledger(files, ledger) {
+        Ok(disk) => disk,
+        Err(why) => return Err(why),
+    };
+    let task = Task {
+        order: &order,
+        if_issued: IfIssued::by(&arguments.way),
+        padding: padding.as_slice(),
+    };
+    let ledger = DiskLog::new(disk);
+    issue_to(
+        alloc,
+        files,
+        &task,
+        arguments.way.out,
+        ledger,
+        output,
+        fault,
+    )
 }
 
 /// Reads the arguments of an order.
@@ -205,19 +172,16 @@ fn issue_to<S: LogFiles, L: UsedLog, W: Sink, F: Sink>(
     ledger: L,
     output: &mut W,
     fault: &mut F,
-) -> u8
+) -> Result<(), IssueFault>
     requires padding { 6 * task.now.order.now.count ≤ length task.now.padding.now }
     requires make { IfSome (option_copied out) (S.may_make files.now) }
-    ensures status { (result ≡ 0) ⊎ (result ≡ 1) }
-    ensures handed_on { result ≡ 0 → IsHandedOn (W.held_back output.new) }
-    ensures handed_on_at_fault { result ≡ 1 → IsHandedOn (W.held_back output.new)
-        ⊎ IsTried (F.known fault.old) (F.known fault.new) (issue_line IssueFault.WriteFailed) }
-    ensures done { result ≡ 0 → IsIssuedTo L.meaning (S.making files.now)
+    ensures done { OnOk result (IsIssuedTo L.meaning (S.making files.now)
         (option_copied out.entry) (task_of task.now) (issuing ledger (streams
-        (W.known output.old) (W.known output.new) (F.known fault.old) (F.known fault.new))) }
-    ensures not_done { result ≡ 1 → IsNotIssuedTo L.meaning (S.making files.now)
+        (W.known output.old) (W.known output.new) (F.known fault.old) (F.known fault.new)))) }
+    ensures handed_on { OnOk result (IsHandedOn (W.held_back output.new)) }
+    ensures not_done { IfErr result (IsNotIssuedTo L.meaning (S.making files.now)
         (option_copied out.entry) (task_of task.now) (issuing ledger (streams
-        (W.known output.old) (W.known output.new) (F.known fault.old) (F.known fault.new))) }
+        (W.known output.old) (W.known output.new) (F.known fault.old) (F.known fault.new)))) }
 {
     match out {
         Some(path) => issue_to_file(alloc, files, task, path, ledger, output, fault),
@@ -235,56 +199,67 @@ fn issue_to_file<S: LogFiles, L: UsedLog, W: Sink, F: Sink>(
     ledger: L,
     output: &mut W,
     fault: &mut F,
-) -> u8
+) -> Result<(), IssueFault>
     requires padding { 6 * task.now.order.now.count ≤ length task.now.padding.now }
     requires make { S.may_make files.now path.now }
-    ensures status { (result ≡ 0) ⊎ (result ≡ 1) }
-    ensures handed_on { result ≡ 0 → IsHandedOn (W.held_back output.new) }
-    ensures handed_on_at_fault { result ≡ 1 → IsHandedOn (W.held_back output.new)
-        ⊎ IsTried (F.known fault.old) (F.known fault.new) (issue_line IssueFault.WriteFailed) }
-    ensures done { result ≡ 0 → IsIssuedToFile L.meaning (S.making files.now path.now).lines
+    ensures done { OnOk result (IsIssuedToFile L.meaning (S.making files.now path.now).lines
         (task_of task.now) (issuing ledger (streams
-        (W.known output.old) (W.known output.new) (F.known fault.old) (F.known fault.new))) }
-    ensures not_done { result ≡ 1 → IsNotIssuedToFile L.meaning (S.making files.now path.now).lines
-        (task_of task.now) (issuing ledger (streams
-        (W.known output.old) (W.known output.new) (F.known fault.old) (F.known fault.new))) }
+        (W.known output.old) (W.known output.new) (F.known fault.old) (F.known fault.new)))) }
+    ensures handed_on { OnOk result (IsHandedOn (W.held_back output.new)) }
+    ensures not_done { IfErr result (IsNotIssuedToFile L.meaning
+        (S.making files.now path.now).lines (task_of task.now) (issuing ledger (streams
+        (W.known output.old) (W.known output.new) (F.known fault.old) (F.known fault.new)))) }
 {
+    duk_io::laws::writes();
     if output.flush().is_err() {
-        return report(fault, IssueFault::WriteFailed);
+        return Err(IssueFault::WriteFailed);
     }
     let mut lines = match files.make_lines(path) {
         Ok(lines) => lines,
-        Err(_) => return report(fault, IssueFault::OutUnmade),
+        Err(_) => return Err(IssueFault::OutUnmade),
     };
-    let status = issue_over(alloc, task, ledger, &mut lines, fault);
+    let ended = issue_over(alloc, task, ledger, &mut lines, fault);
     files.remove_empty(path, lines);
-    status
+    ended
 }
 
-/// Does a task over a ledger, hands the lines on, and gives the status.
+/// Does a task over a ledger, hands the lines on, and notes how many numbers were passed over, where
+/// there are any.
 fn issue_over<L: UsedLog, W: Sink, F: Sink>(
     alloc: Global,
     task: &Task<'_>,
     ledger: L,
     output: &mut W,
     fault: &mut F,
-) -> u8
+) -> Result<(), IssueFault>
     requires { 6 * task.now.order.now.count ≤ length task.now.padding.now }
-    ensures status { (result ≡ 0) ⊎ (result ≡ 1) }
-    ensures handed_on { result ≡ 0 → IsHandedOn (W.held_back output.new) }
-    ensures handed_on_at_fault { result ≡ 1 → IsHandedOn (W.held_back output.new)
-        ⊎ IsTried (F.known fault.old) (F.known fault.new) (issue_line IssueFault.WriteFailed) }
-    ensures done { result ≡ 0 → IsIssuedOver L.meaning (task_of task.now)
+    ensures done { OnOk result (IsIssuedOver L.meaning (task_of task.now)
         (issuing ledger (streams (W.known output.old) (W.known output.new)
-        (F.known fault.old) (F.known fault.new))) }
-    ensures not_done { result ≡ 1 → IsNotIssuedOver L.meaning (task_of task.now)
+        (F.known fault.old) (F.known fault.new)))) }
+    ensures handed_on { OnOk result (IsHandedOn (W.held_back output.new)) }
+    ensures not_done { IfErr result (IsNotIssuedOver L.meaning (task_of task.now)
         (issuing ledger (streams (W.known output.old) (W.known output.new)
-        (F.known fault.old) (F.known fault.new))) }
+        (F.known fault.old) (F.known fault.new)))) }
 {
+    duk_io::laws::writes();
     let mut ledger = ledger;
-    match make_lines(alloc, task, &mut ledger, output) {
-        Ok(passed_over) => end_noted(passed_over, output, fault),
-        Err(why) => report_after(&IssueEnding { why }, &LOST, output, fault),
+    let made = make_lines(alloc, task, &mut ledger, output);
+    match hand_on(made, IssueFault::WriteFailed, output) {
+        Ok(passed_over) => {
+            note(passed_over, fault);
+            Ok(())
+        }
+        Err(why) => Err(why),
+    }
+}
+
+/// Notes how many numbers were passed over, where there are any.
+fn note<F: Sink>(passed_over: u32, fault: &mut F)
+    ensures { IsNoted passed_over (F.known fault.old) (F.known fault.new) }
+{
+    duk_io::laws::writes();
+    if passed_over > 0 {
+        note_passed_over(fault, passed_over);
     }
 }
 
@@ -310,23 +285,4 @@ fn make_lines<L: UsedLog, W: Sink>(
             Err(why) => Err(why),
         },
     }
-}
-
-/// Hands the lines on, and notes how many numbers were passed over, where there are any.
-fn end_noted<W: Sink, F: Sink>(passed_over: u32, output: &mut W, fault: &mut F) -> u8
-    ensures status { (result ≡ 0) ⊎ (result ≡ 1) }
-    ensures handed_on { result ≡ 0 → IsHandedOn (W.held_back output.new) }
-    ensures handed_on_at_fault { result ≡ 1
-        → IsTried (F.known fault.old) (F.known fault.new) (issue_line IssueFault.WriteFailed) }
-    ensures kept { result ≡ 0 → IsUntouched (W.known output.old) (W.known output.new) }
-    ensures noted { result ≡ 0 → IsNoted passed_over (F.known fault.old) (F.known fault.new) }
-    ensures lost { result ≡ 1 → IsFlushReported (issue_line IssueFault.WriteFailed)
-        (W.known output.old) (W.known output.new) (F.known fault.old) (F.known fault.new) }
-{
-    duk_io::laws::writes();
-    let status = hand_on(&LOST, output, fault);
-    if status == 0 && passed_over > 0 {
-        note_passed_over(fault, passed_over);
-    }
-    status
 }

@@ -17,7 +17,7 @@ use std::alloc::Global;
 use std::{io, str};
 
 /// The most bytes of a secret's line.
-const LONGEST_LINE: usize = 4096;
+pub(crate) const LONGEST_LINE: usize = 4096;
 
 /// The most bytes that are read of the input: those of the longest line and of its end, CR LF.
 const MOST_TAKEN: usize = LONGEST_LINE + 2;

@@ -3,10 +3,9 @@
 ghost use Rattle.std.specs.Prelude.{◌≡◌, ◌∷◌, ◌+◌, ◌<◌, [], ℕ, List, IsSomeAnd, MatchOption, get_or, length, option_map, option_to_list};
 ghost use Rattle.std.specs.Option.{option_copied};
 ghost use Rattle.duk_arguments.specs.Keys.{texts_of_keys};
-ghost use Rattle.duk_program.specs.Find.{IsSearch};
 ghost use Rattle.duk_program.specs.Own.{made_by, written_by};
 ghost use Rattle.duk_service.specs.Files.{FileKnown};
-ghost use Rattle.duk_program.specs.Secrets.{EachMeans, HasMeaning, IsOverSecrets, SoughtMeans, secret_at, secret_names, secrets_of, sought_names, sought_secrets};
+ghost use Rattle.duk_program.specs.Secrets.{EachMeans, HasMeaning, SoughtMeans, secret_at, secret_names, secrets_of, sought_names, sought_secrets};
 
 use crate::secrets::Secret;
 use duk_arguments::{Keys, Request, Sought};
@@ -126,12 +125,9 @@ pub(crate) fn secret_at(request: &Request<'_>, place: usize) -> Secret
 
 /// A request with these texts in place of its secrets.
 pub(crate) fn with_secrets<'a>(request: &Request<'a>, texts: &Keys<'a>) -> Request<'a>
-    requires over { IsOverSecrets request.now }
-    requires count { length (texts_of_keys texts.now) ≡ length (secrets_of request.now) }
-    ensures over { IsOverSecrets result }
+    requires { length (texts_of_keys texts.now) ≡ length (secrets_of request.now) }
     ensures written { written_by result ≡ written_by request.now }
     ensures made { made_by result ≡ made_by request.now }
-    ensures search { IsSearch request.now → IsSearch result }
     ensures meaning { (held : List ℕ → FileKnown)
         → EachMeans held (secrets_of request.now) (texts_of_keys texts.now)
         → HasMeaning held request.now result }

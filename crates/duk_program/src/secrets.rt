@@ -4,8 +4,6 @@ ghost use Rattle.std.specs.Prelude.{◌≡◌, ◌≤◌, length};
 ghost use Rattle.duk_program.specs.Secrets.{secret_line, secret_name, unread_text};
 
 use duk_commands::{Lines, push_end, push_text};
-use duk_io::{Sink, write_text};
-use duk_service::EndingFault;
 
 /// An argument that is a secret, by its name in the help.
 #[derive(Clone, Copy, Debug, PartialEq, Eq)]
@@ -32,7 +30,7 @@ pub enum Secret {
 
 impl Secret {
     /// The name of the argument in the help.
-    fn name(self) -> &'static str
+    pub(crate) fn name(self) -> &'static str
         ensures name { result.now ≡ secret_name self }
         ensures short { length result.now ≤ 7 }
     {
@@ -99,15 +97,5 @@ impl SecretFault {
         }
         push_end(&mut line);
         line
-    }
-}
-
-/// A fault of a secret that is given by reference.
-impl EndingFault for SecretFault {
-    ghost line = { secret_line };
-
-    fn report<F: Sink>(&self, fault: &mut F) -> u8 {
-        let _ = write_text(fault, self.line().as_slice());
-        1
     }
 }

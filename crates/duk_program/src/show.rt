@@ -1,21 +1,20 @@
 //! The command `show`.
 
-ghost use Rattle.std.specs.Prelude.{◌≡◌, ◌⊎◌, IfErr, IfOk};
-ghost use Rattle.duk_commands.specs.Answer.{HasWriteFailed, HasWritten, streams};
+ghost use Rattle.std.specs.Prelude.{◌≡◌, ◌⊎◌, IfErr, IfOk, OnOk};
 ghost use Rattle.duk_io.specs.Sink.{IsHandedOn};
-ghost use Rattle.duk_program.specs.Show.{HasNotShownText, HasShownText, IsJournalFileRefused, IsJournalFileText, IsLogFileRefused, IsLogFileText, IsShowRefused, IsShowText, show_arguments};
+ghost use Rattle.duk_program.specs.Show.{HasNotShownText, HasShownText, IsJournalFileRefused, IsJournalFileText, IsLogFileRefused, IsLogFileText, IsNotShown, IsShowRefused, IsShowText, IsShown, show_arguments};
 ghost use Rattle.duk_show.specs.Block.{IsBlockRefused, IsBlockText};
 ghost use Rattle.duk_show.specs.Frame.{IsFrameRefused, IsFrameText};
 ghost use Rattle.duk_show.specs.CheckedFrame.{IsCheckRefused, IsCheckedText};
 ghost use Rattle.duk_show.specs.Image.{IsImageRefused, IsImageText};
 ghost use Rattle.duk_show.specs.declared.fault.ShowFault.TheVariants.{OutOfMemory};
 
-use duk_commands::{Fault, KeyArgument};
+use crate::fault::Fault;
+use duk_commands::{KeyArgument, hand_on};
 use duk_io::{Sink, write_text};
-use duk_service::{FileFault, FileSystem, hand_on};
+use duk_service::{FileFault, FileSystem};
 use duk_show::{
-    ShowFault, block_lines, checked_frame_lines, frame_lines, image_lines, journal_lines,
-    log_lines, report,
+    ShowFault, block_lines, checked_frame_lines, frame_lines, image_lines, journal_lines, log_lines,
 };
 use std::alloc::Global;
 
@@ -23,9 +22,9 @@ use std::alloc::Global;
 /// explained by.
 pub(crate) const LONGEST_LOG: usize = 1 << 30;
 
-/// Prints what a text of its kind says, or the log or the journal in the file under a path, and gives
-/// the status: 0, or 1 with a line on `fault`. A key tests the MAC of a frame.
-pub(crate) fn show_text<S: FileSystem, W: Sink, F: Sink>(
+/// Prints what a text of its kind says, or the log or the journal in the file under a path, and hands
+/// that on. A key tests the MAC of a frame.
+pub(crate) fn show_text<S: FileSystem, W: Sink>(
     alloc: Global,
     files: &S,
     kind: &str,
@@ -33,42 +32,48 @@ pub(crate) fn show_text<S: FileSystem, W: Sink, F: Sink>(
     show: bool,
     key: Option<KeyArgument<'_>>,
     output: &mut W,
-    fault: &mut F,
-) -> u8
-    ensures status { (result ≡ 0) ⊎ (result ≡ 1) }
-    ensures handed_on { result ≡ 0 → IsHandedOn (W.held_back output.new) }
-    ensures done { result ≡ 0 → HasShownText
+) -> Result<(), Fault>
+    ensures done { OnOk result (HasShownText
         (show_arguments kind.now what.now show key.entry (S.held files.now what.now))
-        (streams (W.known output.old) (W.known output.new)
-        (F.known fault.old) (F.known fault.new)) }
-    ensures not_done { result ≡ 1 → HasNotShownText
+        (W.known output.old) (W.known output.new)) }
+    ensures handed_on { OnOk result (IsHandedOn (W.held_back output.new)) }
+    ensures not_done { IfErr result (λ why. HasNotShownText
         (show_arguments kind.now what.now show key.entry (S.held files.now what.now))
-        (streams (W.known output.old) (W.known output.new)
-        (F.known fault.old) (F.known fault.new)) }
+        (W.known output.old) why (W.known output.new)) }
+{
+    let ended = print_text(alloc, files, kind, what, show, key, output);
+    hand_on(
+        ended,
+        Fault::Command(duk_commands::Fault::WriteFailed),
+        output,
+    )
+}
+
+/// The same, but what is printed may still be held back.
+fn print_text<S: FileSystem, W: Sink>(
+    alloc: Global,
+    files: &S,
+    kind: &str,
+    what: &str,
+    show: bool,
+    key: Option<KeyArgument<'_>>,
+    output: &mut W,
+) -> Result<(), Fault>
+    ensures done { OnOk result (IsShown
+        (show_arguments kind.now what.now show key.entry (S.held files.now what.now))
+        (W.known output.old) (W.known output.new)) }
+    ensures not_done { IfErr result (λ why. IsNotShown
+        (show_arguments kind.now what.now show key.entry (S.held files.now what.now))
+        (W.known output.old) why (W.known output.new)) }
 {
     duk_io::laws::writes();
     let text = match shown_text(alloc, files, kind, what, show, key) {
         Ok(text) => text,
-        Err(why) => return report(fault, why),
+        Err(why) => return Err(Fault::Show(why)),
     };
-    match print(text.as_slice(), output, fault) {
-        0 => hand_on(&Fault::WriteFailed, output, fault),
-        status => status,
-    }
-}
-
-/// Writes a text, and gives the status: 0, or 1 with a line on `fault`.
-fn print<W: Sink, F: Sink>(text: &[u8], output: &mut W, fault: &mut F) -> u8
-    ensures status { (result ≡ 0) ⊎ (result ≡ 1) }
-    ensures done { result ≡ 0 → HasWritten text.now (streams (W.known output.old)
-        (W.known output.new) (F.known fault.old) (F.known fault.new)) }
-    ensures not_done { result ≡ 1 → HasWriteFailed text.now (streams (W.known output.old)
-        (W.known output.new) (F.known fault.old) (F.known fault.new)) }
-{
-    duk_io::laws::writes();
-    match write_text(output, text) {
-        Ok(()) => 0,
-        Err(_) => duk_commands::report(fault, Fault::WriteFailed),
+    match write_text(output, text.as_slice()) {
+        Ok(()) => Ok(()),
+        Err(_) => Err(Fault::Command(duk_commands::Fault::WriteFailed)),
     }
 }
 

@@ -1,5 +1,6 @@
 mod CopiedJournal
 mod LeftDisks
-mod Losses
+mod Ended
 mod LeftRecords
 mod Results
+mod OverDisks

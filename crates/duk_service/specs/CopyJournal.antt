@@ -2,8 +2,6 @@
 use Rattle.std.specs.Prelude.{◌≢◌, ◌≡◌, ◌⊎◌, ◌↔◌, ℕ, List, None, length}
 use Rattle.duk_copy.specs.Copy.{IsCopied}
 use Rattle.duk_host.specs.declared.fault.HostFault.TheVariants.{Store}
-use Rattle.duk_io.specs.Known.{Known}
-use Rattle.duk_io.specs.Sink.{IsTried}
 use Rattle.duk_journal.specs.DiskJournal.{DiskJournalOf, MayFindEntries, disk_journal_meaning, disk_journal_state, new_disk_journal}
 use Rattle.duk_journal.specs.Groups.{Entries}
 use Rattle.duk_journal.specs.Journal.{JournalMeaning}
@@ -13,8 +11,7 @@ use Rattle.duk_line.specs.declared.check.Checked.{Checked}
 use Rattle.duk_service.specs.LogFiles.{DiskKnown, IsDisk, IsFolderSynced, IsNoDisk, MakingKnown}
 use Rattle.duk_service.specs.NewFile.{IsNoneOrWhole, IsUnmade, new_file_line}
 use Rattle.duk_service.specs.OwnFiles.{IsNoOwnDisk, IsOwnDisk}
-use Rattle.duk_service.specs.ServeJournal.{journal_line}
-use Rattle.duk_service.specs.ServeJournalFiles.{unopened_journal_line}
+use Rattle.duk_service.specs.ServeFault.{open_line, store_line}
 use Rattle.duk_service.specs.declared.copy_journal.CopyJournalFault.{CopyJournalFault}
 use Rattle.duk_service.specs.declared.copy_journal.CopyJournalFault.TheVariants as fault
 use Rattle.duk_service.specs.declared.left_records.RecordFormat.TheVariants.{Journal}
@@ -48,7 +45,7 @@ pub record IsOldChecked {D : Type 0} (meaning : DiskMeaning D) (known : DiskKnow
   pub is_opened : IsOwnDisk Journal meaning known opened
   pub kept : HasKept meaning opened last entries
 
--- status 0 of `copy-journal`: OLD is checked, a file of its size is made, what OLD keeps is written
+-- what `copy-journal` makes: OLD is checked, a file of its size is made, what OLD keeps is written
 -- over all of its disk and synced, that disk is checked, and its folder is synced. Where the disk of
 -- the file is honest, no host over it is refused as damaged, and it has as many entries as OLD keeps
 -- and their check sum, whatever OLD is; and where that of OLD is too, a journal over it finds what OLD
@@ -161,13 +158,6 @@ IsCopyJournalRefused meaning known making fault.Unmade = IsCopyUnmade meaning kn
 -- the line of a fault, LF at its end
 abbrev pub copy_journal_line : CopyJournalFault → List ℕ
 copy_journal_line fault.OutOfMemory = new_file_line Journal OutOfMemory
-copy_journal_line fault.Unopened = unopened_journal_line
-copy_journal_line fault.Failed = journal_line (Store Device)
+copy_journal_line fault.Unopened = open_line Journal open_fault.Unopened
+copy_journal_line fault.Failed = store_line Journal
 copy_journal_line fault.Unmade = new_file_line Journal Unmade
-
--- status 1 of `copy-journal`: that is reported
-pub record HasNotCopiedJournal {D : Type 0} (meaning : DiskMeaning D) (known : DiskKnown D)
-    (making : MakingKnown D) (reported reported' : Known) : Type 0 where
-  pub why : CopyJournalFault
-  pub cause : IsCopyJournalRefused meaning known making why
-  pub line : IsTried reported reported' (copy_journal_line why)

@@ -1,12 +1,12 @@
 pub mod CopyJournal
 pub mod Files
-pub mod HandedOn
 pub mod HostSize
 pub mod LeftRecords
 pub mod LogFiles
 pub mod NewFile
 pub mod OwnFiles
 pub mod Serve
+pub mod ServeFault
 pub mod ServeJournal
 pub mod ServeJournalFiles
 pub mod ServeLogFiles

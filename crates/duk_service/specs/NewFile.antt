@@ -3,8 +3,6 @@ use Rattle.std.specs.Prelude.{⊤, ◌≢◌, ◌≡◌, ◌≤◌, ◌*◌, ◌
 use Rattle.duk_commands.specs.Decimal.{IsDecimal}
 use Rattle.duk_copy.specs.Blank.{IsBlankWritten}
 use Rattle.duk_copy.specs.InPart.{IsNoJournal}
-use Rattle.duk_io.specs.Known.{Known}
-use Rattle.duk_io.specs.Sink.{IsTried}
 use Rattle.duk_journal.specs.DiskJournal.{IsZeroJournalDisk}
 use Rattle.duk_journal.specs.Groups.{Entries, KeepsEntries}
 use Rattle.duk_journal.specs.RecordFormat.{IsJournalSize}
@@ -48,7 +46,7 @@ pub record IsBlankMade (format : RecordFormat) {D : Type 0} (meaning : DiskMeani
   pub blank : (meaning.state_of made).honest → IsZeroDisk format (meaning.state_of last)
   pub folder : IsFolderSynced known.folder
 
--- status 0 of `new-log` and `new-journal`
+-- what `new-log` and `new-journal` make
 pub record HasMadeFile (format : RecordFormat) {D : Type 0} (meaning : DiskMeaning D)
     (known : MakingKnown D) (text : List ℕ) : Type 0 where
   pub records : ℕ
@@ -108,10 +106,3 @@ new_file_line format fault.RecordsRefused = codes "records refused\n"
 new_file_line Log fault.Unmade = codes "log: cannot make\n"
 new_file_line Journal fault.Unmade = codes "journal: cannot make\n"
 new_file_line format fault.OutOfMemory = codes "out of memory\n"
-
--- status 1 of `new-log` and `new-journal`: that is reported
-pub record HasNotMadeFile (format : RecordFormat) {D : Type 0} (meaning : DiskMeaning D)
-    (known : MakingKnown D) (text : List ℕ) (reported reported' : Known) : Type 0 where
-  pub why : NewFileFault
-  pub cause : IsNewFileRefused format meaning known text why
-  pub line : IsTried reported reported' (new_file_line format why)

@@ -1,7 +1,7 @@
 -- The ways to open the file of a log or a journal (this project's own).
 use Rattle.std.specs.Prelude.{◌≡◌, ◌⊎◌, None, Option, Some}
-use Rattle.duk_explain.specs.declared.found.Strange.{Strange}
-use Rattle.duk_explain.specs.declared.found.Strange.TheVariants as strange
+use Rattle.duk_service.specs.declared.reason.Strange.{Strange}
+use Rattle.duk_service.specs.declared.reason.Strange.TheVariants as strange
 use Rattle.duk_service.specs.LeftRecords.{IsCut, IsForeignAt, IsLeftBy}
 use Rattle.duk_service.specs.LogFiles.{DiskKnown, IsDisk, IsNoDisk}
 use Rattle.duk_service.specs.declared.left_records.RecordFormat.{RecordFormat}

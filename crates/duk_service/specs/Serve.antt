@@ -1,5 +1,6 @@
 -- What `serve` answers (this project's own, over what a host does with a stream of frames).
 use Rattle.std.specs.Prelude.{◌≡◌, ◌⊎◌, ℕ, Bool, List, [], codes, Option, true, false}
+use Rattle.duk_commands.specs.HandedOn.{HasHandedOn, HasLost}
 use Rattle.duk_host.specs.Host.{HostMeaning, HostOf, host_meaning_of}
 use Rattle.duk_host.specs.Restart.{HostRestartRefused, IsHostRestarted}
 use Rattle.duk_host.specs.Serve.{IsReadToEnd, ServiceFailed, Supply, service, supply}
@@ -7,8 +8,10 @@ use Rattle.duk_host.specs.Table.{CardTable, table_decision}
 use Rattle.duk_host.specs.declared.fault.HostFault.{HostFault}
 use Rattle.duk_host.specs.declared.fault.HostFault.TheVariants as fault
 use Rattle.duk_io.specs.Known.{Known}
-use Rattle.duk_io.specs.Sink.{IsUntouched}
-use Rattle.duk_service.specs.HandedOn.{IsFlushReported, IsHostReported}
+use Rattle.duk_service.specs.declared.left_records.RecordFormat.{RecordFormat}
+use Rattle.duk_service.specs.declared.left_records.RecordFormat.TheVariants.{Log}
+use Rattle.duk_service.specs.declared.serve_fault.ServeFault.{ServeFault}
+use Rattle.duk_service.specs.declared.serve_fault.ServeFault.TheVariants as serve_fault
 use Rattle.duk_store.specs.Log.{LogMeaning}
 
 -- what a log and the issuer of a configuration mean
@@ -95,15 +98,6 @@ abbrev pub ServeRefused : {L I : Type 0} → HostMeaning L I → HostOf L I → 
     → Type 0
 ServeRefused meaning made s why = IsNotMade s why ⊎ HostRefused meaning made s why
 
--- status 0: the host served to the end of the input, and wrote nothing behind its answers
-pub record HasServed
-    {L I : Type 0} (meaning : HostMeaning L I) (made : HostOf L I) (s : Serving)
-    : Type 0 where
-  pub count : ℕ
-  pub written : Known
-  pub served : IsServedUp meaning made (answered_at s written) count
-  pub kept : IsUntouched written s.output_after
-
 -- the line of a fault of serving
 abbrev pub serve_line : HostFault → List ℕ
 serve_line fault.NoMemory = codes "out of memory\n"
@@ -120,34 +114,38 @@ is_of_store (fault.Store why) = true
 is_of_store fault.Stopped = true
 is_of_store _ = false
 
--- the line where the answers cannot be handed on
-abbrev pub lost_answers_line : List ℕ
-lost_answers_line = serve_line fault.Write
+-- a host served to the end of the input, as this says of the answers that were written, and they are
+-- handed on
+abbrev pub HasServed : (Serving → Type 0) → Serving → Type 0
+HasServed Served s = HasHandedOn (λ written. Served (answered_at s written)) s.output_after
 
--- serving was refused, and that is reported after the answers, or that they could not be handed on,
--- or, of a fault of the log, both
-pub record HasRefusedService
-    {L I : Type 0} (meaning : HostMeaning L I) (made : HostOf L I) (s : Serving)
-    (reported reported' : Known) : Type 0 where
-  pub why : HostFault
-  pub written : Known
-  pub refused : ServeRefused meaning made (answered_at s written) why
-  pub reports : IsHostReported (is_of_store why) (serve_line why) lost_answers_line written
-      s.output_after reported reported'
+-- it did not, for a fault that is one of its store or none, as this says
+abbrev pub HasRefused : Bool → (HostFault → Serving → Type 0) → Serving → Type 0
+HasRefused of_store Refused s =
+    (cause : HostFault) × (is_of_store cause ≡ of_store) × Refused cause s
 
--- the input was served to its end, and then the answers could not be handed on, and that is
--- reported
-pub record HasLostAnswers
-    {L I : Type 0} (meaning : HostMeaning L I) (made : HostOf L I) (s : Serving)
-    (reported reported' : Known) : Type 0 where
-  pub count : ℕ
-  pub written : Known
-  pub served : IsServedUp meaning made (answered_at s written) count
-  pub reports : IsFlushReported lost_answers_line written s.output_after reported reported'
+-- why the input is not served to its end over a log or a journal, by what it is to be served and not
+-- to be: the fault of the host; or that its answers are lost, alone or beside a fault of its store
+abbrev pub HasNotServed : RecordFormat → (Serving → Type 0) → (HostFault → Serving → Type 0) → Serving
+    → ServeFault → Type 0
+HasNotServed format Served Refused s (serve_fault.NotOpened kind why) = ⊥
+HasNotServed format Served Refused s (serve_fault.Host kind why) = (kind ≡ format)
+    × (HasHandedOn (λ written. Refused why (answered_at s written)) s.output_after
+    ⊎ ((why ≡ fault.Write) × HasLost (λ written. Served (answered_at s written)
+    ⊎ HasRefused false Refused (answered_at s written)) s.output_after))
+HasNotServed format Served Refused s (serve_fault.StoreAndAnswers kind) = (kind ≡ format)
+    × HasLost (λ written. HasRefused true Refused (answered_at s written)) s.output_after
 
--- status 1
-abbrev pub HasNotServed : {L I : Type 0} → HostMeaning L I → HostOf L I → Serving → Known → Known
+-- a host over this log is brought up, and serves to the end of the input
+abbrev pub IsServed : {L I : Type 0} → HostMeaning L I → HostOf L I → Serving → Type 0
+IsServed meaning made s = (count : ℕ) × IsServedUp meaning made s count
+
+-- so it is, and its answers are handed on
+abbrev pub HasServedLog : {L I : Type 0} → HostMeaning L I → HostOf L I → Serving → Type 0
+HasServedLog meaning made = HasServed (IsServed meaning made)
+
+-- why it is not
+abbrev pub HasNotServedLog : {L I : Type 0} → HostMeaning L I → HostOf L I → Serving → ServeFault
     → Type 0
-HasNotServed meaning made s reported reported' =
-    HasRefusedService meaning made s reported reported'
-    ⊎ HasLostAnswers meaning made s reported reported'
+HasNotServedLog meaning made = HasNotServed Log (IsServed meaning made)
+    (λ why s. ServeRefused meaning made s why)

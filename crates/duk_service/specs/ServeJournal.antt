@@ -1,19 +1,17 @@
 -- What `serve` answers over a journal (this project's own, over what a host over a journal does with
 -- a stream of frames).
-use Rattle.std.specs.Prelude.{◌⊎◌, ℕ, List, [], codes, None}
+use Rattle.std.specs.Prelude.{◌⊎◌, ℕ, [], None}
 use Rattle.duk_config.specs.Opened.{keys_for}
 use Rattle.duk_config.specs.Settings.{Settings}
 use Rattle.duk_host.specs.Table.{CardTable, table_decision}
 use Rattle.duk_host.specs.declared.fault.HostFault.{HostFault}
-use Rattle.duk_host.specs.declared.fault.HostFault.TheVariants as fault
-use Rattle.duk_io.specs.Known.{Known}
-use Rattle.duk_io.specs.Sink.{IsUntouched}
 use Rattle.duk_journal.specs.Journal.{JournalMeaning}
 use Rattle.duk_line.specs.Host.{HostMeaning, HostOf, host_meaning_of}
 use Rattle.duk_line.specs.Restart.{HostRestartRefused, IsHostRestarted}
 use Rattle.duk_line.specs.Serve.{IsReadToEnd, ServiceFailed, service}
-use Rattle.duk_service.specs.HandedOn.{IsFlushReported, IsHostReported}
-use Rattle.duk_service.specs.Serve.{HasNothingServed, IsNotMade, Serving, answered_at, is_of_store, serve_line}
+use Rattle.duk_service.specs.Serve.{HasNotServed, HasNothingServed, HasServed, IsNotMade, Serving}
+use Rattle.duk_service.specs.declared.left_records.RecordFormat.TheVariants.{Journal}
+use Rattle.duk_service.specs.declared.serve_fault.ServeFault.{ServeFault}
 use Rattle.duk_tdes.specs.KeyBytes.{bytes_of}
 
 -- what a journal and the issuer of a configuration mean
@@ -69,42 +67,12 @@ JournalServiceRefused meaning made s why =
     IsNotMade s why
     ⊎ IsJournalHostDown meaning made s why ⊎ IsJournalServiceStopped meaning made s why
 
--- status 0: the host served to the end of the input, and wrote nothing behind its answers
-pub record HasServedJournal
-    {J I : Type 0} (meaning : HostMeaning J I) (made : HostOf J I) (s : Serving) : Type 0 where
-  pub written : Known
-  pub served : IsJournalServed meaning made (answered_at s written)
-  pub kept : IsUntouched written s.output_after
+-- so it did, and its answers are handed on
+abbrev pub HasServedJournal : {J I : Type 0} → HostMeaning J I → HostOf J I → Serving → Type 0
+HasServedJournal meaning made = HasServed (IsJournalServed meaning made)
 
--- the line of a fault of serving over a journal: that of the journal in place of the log's
-abbrev pub journal_line : HostFault → List ℕ
-journal_line (fault.Store why) = codes "journal: failed\n"
-journal_line fault.Stopped = codes "journal: failed\n"
-journal_line why = serve_line why
-
--- serving was refused, and that is reported after the answers, or that they could not be handed on,
--- or, of a fault of the journal, both
-pub record HasRefusedJournalService
-    {J I : Type 0} (meaning : HostMeaning J I) (made : HostOf J I) (s : Serving)
-    (reported reported' : Known) : Type 0 where
-  pub why : HostFault
-  pub written : Known
-  pub refused : JournalServiceRefused meaning made (answered_at s written) why
-  pub reports : IsHostReported (is_of_store why) (journal_line why) (journal_line fault.Write)
-      written s.output_after reported reported'
-
--- the input was served to its end, and then the answers could not be handed on, and that is
--- reported
-pub record HasLostJournalAnswers
-    {J I : Type 0} (meaning : HostMeaning J I) (made : HostOf J I) (s : Serving)
-    (reported reported' : Known) : Type 0 where
-  pub written : Known
-  pub served : IsJournalServed meaning made (answered_at s written)
-  pub reports : IsFlushReported (journal_line fault.Write) written s.output_after reported reported'
-
--- status 1
-abbrev pub HasNotServedJournal : {J I : Type 0} → HostMeaning J I → HostOf J I → Serving → Known
-    → Known → Type 0
-HasNotServedJournal meaning made s reported reported' =
-    HasRefusedJournalService meaning made s reported reported'
-    ⊎ HasLostJournalAnswers meaning made s reported reported'
+-- why it did not
+abbrev pub HasNotServedJournal : {J I : Type 0} → HostMeaning J I → HostOf J I → Serving → ServeFault
+    → Type 0
+HasNotServedJournal meaning made = HasNotServed Journal (IsJournalServed meaning made)
+    (λ why s. JournalServiceRefused meaning made s why)

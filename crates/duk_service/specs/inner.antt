@@ -1,3 +1,4 @@
 pub mod CopyJournal
 pub mod LeftRecords
 pub mod NewFile
+pub mod Serve

@@ -1,30 +1,27 @@
 //! The command `copy-journal`.
 
-ghost use Rattle.std.specs.Prelude.{◌≡◌, ◌≤◌, ◌*◌, ◌⊎◌, IfErr, IfOk, OnOk, length, replicate};
-ghost use Rattle.duk_io.specs.Sink.{IsUntouched};
+ghost use Rattle.std.specs.Prelude.{◌≡◌, ◌≤◌, ◌*◌, IfErr, IfOk, OnOk, length, replicate};
 ghost use Rattle.duk_journal.specs.DiskJournal.{disk_journal_meaning};
 ghost use Rattle.duk_line.specs.Check.{IsChecked};
-ghost use Rattle.duk_service.specs.CopyJournal.{HasCopiedJournal, HasNotCopiedJournal, IsCopyJournalRefused, copy_journal_line};
+ghost use Rattle.duk_service.specs.CopyJournal.{HasCopiedJournal, IsCopyJournalRefused, copy_journal_line};
 ghost use Rattle.duk_service.specs.LogFiles.{BeginsUnfinished, IsFolderSynced};
 ghost use Rattle.duk_service.specs.OwnFiles.{IsOwnDisk};
 ghost use Rattle.duk_service.specs.declared.left_records.RecordFormat.TheVariants.{Journal};
 ghost use Rattle.duk_service.specs.inner.CopyJournal.{CheckedNotKept, CopyNotMade, CopyNotWritten, IsCopyMade, IsCopyWritten, IsNewChecked, IsNoneOrKept, IsNotChecked, IsOldUnopened, IsReadOver, NewNotChecked, NewNotKept};
 ghost use Rattle.duk_store.specs.Disk.{PreservesBytes, PreservesDisk};
 
-use crate::ending::EndingFault;
 use crate::left_records::RecordFormat;
 use crate::log_files::{Access, LogFiles};
 use crate::own_files::{OpenFault, open_own};
 use duk_copy::{CopyFault, PIECE_LENGTH, write_copy};
 use duk_host::HostFault;
-use duk_io::{Sink, write_text};
 use duk_journal::{DiskJournal, Journal};
 use duk_line::{Checked, check_journal};
 use duk_store::Disk;
 use std::alloc::{AllocError, Global};
 
 /// Why no journal is copied.
-#[derive(Clone, Copy)]
+#[derive(Clone, Copy, Debug, PartialEq, Eq)]
 pub enum CopyJournalFault {
     /// Memory was refused.
     OutOfMemory,
@@ -47,24 +44,17 @@ impl From<AllocError> for CopyJournalFault {
     }
 }
 
-impl EndingFault for CopyJournalFault {
-    ghost line = { copy_journal_line };
-
-    fn report<F: Sink>(&self, fault: &mut F) -> u8 {
-        let _ = write_text(fault, line_of(*self).as_bytes());
-        1
-    }
-}
-
-/// The line of a fault, LF at its end.
-fn line_of(why: CopyJournalFault) -> &'static str
-    ensures { result.now ≡ copy_journal_line why }
-{
-    match why {
-        CopyJournalFault::OutOfMemory => "out of memory\n",
-        CopyJournalFault::Unopened => "journal: cannot open\n",
-        CopyJournalFault::Failed => "journal: failed\n",
-        CopyJournalFault::Unmade => "journal: cannot make\n",
+impl CopyJournalFault {
+    /// The line of the fault, LF at its end.
+    pub fn line(self) -> &'static str
+        ensures { result.now ≡ copy_journal_line self }
+    {
+        match self {
+            CopyJournalFault::OutOfMemory => "out of memory\n",
+            CopyJournalFault::Unopened => "journal: cannot open\n",
+            CopyJournalFault::Failed => "journal: failed\n",
+            CopyJournalFault::Unmade => "journal: cannot make\n",
+        }
     }
 }
 
@@ -75,39 +65,16 @@ struct Pieces {
     piece: Vec<u8>,
 }
 
-/// Makes a file of the size of a journal's, with what that keeps, and gives the status: 0, or 1 with
-/// a line on `fault`. The journal's bytes are such as a journal leaves, and what it keeps is checked,
-/// as at a start of a service, before the file is made, and the file before its folder
-/// is synced: a journal that is read otherwise the second time is not copied, since the file has
-/// another number of entries then, or another check sum.
+/// Makes a file of the size of a journal's, with what that keeps. The journal's bytes are such as a
+/// journal leaves, and what it keeps is checked, as at a start of a service, before the file is made,
+/// and the file before its folder is synced: a journal that is read otherwise the second time is not
+/// copied, since the file has another number of entries then, or another check sum. All memory but
+/// that of the copy's check is asked for before its file is made.
 ///
 /// The faults, in this order: `journal: cannot open`; `journal: failed`; `journal: cannot make`. In
 /// place of each but the first may stand `out of memory`. A file that was made and cannot be kept is
 /// removed again, if it can be.
-pub fn copy_journal<S: LogFiles, F: Sink>(
-    alloc: Global,
-    files: &S,
-    old: &str,
-    new: &str,
-    fault: &mut F,
-) -> u8
-    requires { S.may_make files.now new.now }
-    ensures status { (result ≡ 0) ⊎ (result ≡ 1) }
-    ensures done { result ≡ 0 → HasCopiedJournal S.Disk.meaning (S.disks files.now old.now)
-        (S.making files.now new.now) }
-    ensures no_fault { result ≡ 0 → IsUntouched (F.known fault.old) (F.known fault.new) }
-    ensures not_done { result ≡ 1 → HasNotCopiedJournal S.Disk.meaning (S.disks files.now old.now)
-        (S.making files.now new.now) (F.known fault.old) (F.known fault.new) }
-{
-    duk_io::laws::writes();
-    match make_copy(alloc, files, old, new) {
-        Ok(()) => 0,
-        Err(why) => why.report(fault),
-    }
-}
-
-/// Copies a journal. All memory but that of the copy's check is asked for before its file is made.
-fn make_copy<S: LogFiles>(
+pub fn copy_journal<S: LogFiles>(
     alloc: Global,
     files: &S,
     old: &str,

@@ -4,7 +4,7 @@
 ghost use Rattle.std.specs.Prelude.{◌≡◌, ℕ, List, None, IfOk, IfErr, IfSome};
 ghost use Rattle.duk_service.specs.Files.{FileKnown, HasBytes, IsFileRead, IsFileUnread, IsFrontRead, IsFrontUnread, IsLineRead, IsLineUnread, without_return};
 
-use duk_explain::Reason;
+use crate::reason::Reason;
 use std::alloc::Global;
 use std::fs::OpenFile;
 use std::io::{ErrorKind, Read};

@@ -11,7 +11,7 @@ use duk_store::{Disk, StoreFault};
 const PIECE_LENGTH: usize = 65_536;
 
 /// A format of records, which a file is of.
-#[derive(Clone, Copy)]
+#[derive(Clone, Copy, Debug, PartialEq, Eq)]
 pub enum RecordFormat {
     /// A log of numbers, or a ledger: records of 16 bytes, each a group by itself.
     Log,

@@ -3,7 +3,6 @@
 #![tactic(auto)]
 
 pub mod copy_journal;
-mod ending;
 mod file_system;
 mod left_records;
 mod line_file;
@@ -11,17 +10,21 @@ mod log_files;
 pub mod new_file;
 mod new_files;
 mod own_files;
+mod reason;
 mod serve;
+mod serve_end;
+mod serve_fault;
 mod serve_journal;
 mod serve_journal_files;
 mod serve_log_files;
 
-pub use ending::{EndingFault, hand_on, report_after, report_beside};
 pub use file_system::{FileFault, FileSystem, strip_return};
 pub use left_records::RecordFormat;
 pub use log_files::{Access, LogFiles};
 pub use own_files::{OpenFault, open_own, strange_in};
-pub use serve::serve_with;
-pub use serve_journal::serve_with_journal;
+pub use reason::{Reason, Strange};
+pub use serve::{serve_over_log, serve_with};
+pub use serve_fault::ServeFault;
+pub use serve_journal::serve_over_journal;
 pub use serve_journal_files::serve_on_journal;
 pub use serve_log_files::{serve_in_memory, serve_on_file};

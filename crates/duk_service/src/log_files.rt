@@ -10,7 +10,7 @@ ghost use Rattle.duk_service.specs.LogFiles.{AreLinesMade, AreNoLines, BeginsUnf
 use crate::file_system::{is_regular, reason_of};
 use crate::line_file::{LineFile, make_line_file, remove_empty_file};
 use crate::new_files::{Begin, make_file, making_reason, open_file, remove_file, sync_folder_of};
-use duk_explain::Reason;
+use crate::reason::Reason;
 use duk_io::Sink;
 use duk_store::{Disk, FileDisk, StoreFault};
 use std::fs;

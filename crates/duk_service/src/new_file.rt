@@ -1,19 +1,16 @@
 //! The commands `new-log` and `new-journal`.
 
-ghost use Rattle.std.specs.Prelude.{◌≡◌, ◌*◌, ◌⊎◌, ℕ, IfErr, IfOk, IfSome, IfNone, OnErr, OnOk, replicate};
-ghost use Rattle.duk_io.specs.Sink.{IsUntouched};
+ghost use Rattle.std.specs.Prelude.{◌≡◌, ◌*◌, ℕ, IfErr, IfOk, IfSome, IfNone, OnErr, OnOk, replicate};
 ghost use Rattle.duk_service.specs.LeftRecords.{IsWhole, record_length};
 ghost use Rattle.duk_service.specs.LogFiles.{BeginsUnfinished, IsDisk, IsNoDisk};
-ghost use Rattle.duk_service.specs.NewFile.{HasMadeFile, HasNotMadeFile, IsBlankMade, IsLeftInPart, IsNewFileRefused, IsRecordCount, IsUnmade, new_file_line};
+ghost use Rattle.duk_service.specs.NewFile.{HasMadeFile, IsBlankMade, IsLeftInPart, IsNewFileRefused, IsRecordCount, IsUnmade, new_file_line};
 ghost use Rattle.duk_service.specs.declared.left_records.RecordFormat.{RecordFormat};
 ghost use Rattle.duk_service.specs.inner.NewFile.{BeginsAs, IsKeptBlank, IsNotKept};
 
-use crate::ending::EndingFault;
 use crate::left_records::RecordFormat;
 use crate::log_files::LogFiles;
 use duk_commands::read_decimal;
 use duk_copy::{PIECE_LENGTH, write_blank};
-use duk_io::{Sink, write_text};
 use duk_store::{Disk, StoreFault};
 use std::alloc::{AllocError, Global};
 
@@ -21,7 +18,7 @@ use std::alloc::{AllocError, Global};
 const MOST_RECORDS: u32 = 1_000_000_000;
 
 /// Why no log or journal is made.
-#[derive(Clone, Copy)]
+#[derive(Clone, Copy, Debug, PartialEq, Eq)]
 pub enum NewFileFault {
     /// RECORDS is no number of records of which one may be made.
     RecordsRefused,
@@ -41,70 +38,28 @@ impl From<AllocError> for NewFileFault {
     }
 }
 
-/// The fault of a command that makes a log or a journal.
-#[derive(Clone, Copy)]
-struct Unmade {
-    /// Which of them.
-    format: RecordFormat,
-    /// Why it is not made.
-    why: NewFileFault,
-}
-
-impl EndingFault for Unmade {
-    ghost line = { λ unmade. new_file_line unmade.format unmade.why };
-
-    fn report<F: Sink>(&self, fault: &mut F) -> u8 {
-        let _ = write_text(fault, line_of(self.format, self.why).as_bytes());
-        1
+impl NewFileFault {
+    /// The line of the fault where a file of this format was to be made, LF at its end.
+    pub fn line(self, format: RecordFormat) -> &'static str
+        ensures { result.now ≡ new_file_line format self }
+    {
+        match self {
+            NewFileFault::RecordsRefused => "records refused\n",
+            NewFileFault::Unmade => match format {
+                RecordFormat::Log => "log: cannot make\n",
+                RecordFormat::Journal => "journal: cannot make\n",
+            },
+            NewFileFault::OutOfMemory => "out of memory\n",
+        }
     }
 }
 
-/// The line of a fault, LF at its end.
-fn line_of(format: RecordFormat, why: NewFileFault) -> &'static str
-    ensures { result.now ≡ new_file_line format why }
-{
-    match why {
-        NewFileFault::RecordsRefused => "records refused\n",
-        NewFileFault::Unmade => match format {
-            RecordFormat::Log => "log: cannot make\n",
-            RecordFormat::Journal => "journal: cannot make\n",
-        },
-        NewFileFault::OutOfMemory => "out of memory\n",
-    }
-}
-
-/// Makes the file of a log or a journal with room for so many numbers or entries as a text says, and
-/// gives the status: 0, or 1 with a line on `fault`.
+/// Makes the file of a log or a journal with room for so many numbers or entries as a text says.
+/// Memory is asked for before the file is made.
 ///
 /// The faults, in this order: `records refused`; `out of memory`; `log: cannot make`, or
 /// `journal: cannot make`. A file that was made and cannot be kept is removed again, if it can be.
-pub fn new_file<S: LogFiles, F: Sink>(
-    alloc: Global,
-    files: &S,
-    format: RecordFormat,
-    file: &str,
-    records: &str,
-    fault: &mut F,
-) -> u8
-    requires { S.may_make files.now file.now }
-    ensures status { (result ≡ 0) ⊎ (result ≡ 1) }
-    ensures done { result ≡ 0
-        → HasMadeFile format S.Disk.meaning (S.making files.now file.now) records.now }
-    ensures no_fault { result ≡ 0 → IsUntouched (F.known fault.old) (F.known fault.new) }
-    ensures not_done { result ≡ 1
-        → HasNotMadeFile format S.Disk.meaning (S.making files.now file.now) records.now
-        (F.known fault.old) (F.known fault.new) }
-{
-    duk_io::laws::writes();
-    match make_file(alloc, files, format, file, records) {
-        Ok(()) => 0,
-        Err(why) => Unmade { format, why }.report(fault),
-    }
-}
-
-/// Makes the file of a log or a journal with room for so many as a text says. Memory is asked for
-/// before the file is made.
-fn make_file<S: LogFiles>(
+pub fn new_file<S: LogFiles>(
     alloc: Global,
     files: &S,
     format: RecordFormat,

@@ -5,7 +5,7 @@
 ghost use Rattle.std.specs.Prelude.{◌≡◌, IfOk};
 
 use crate::file_system::is_regular;
-use duk_explain::Reason;
+use crate::reason::Reason;
 use duk_store::{FileDisk, FileMedium, MediumDisk, ReadAhead};
 use std::fs::{File, OpenOptions};
 use std::io::ErrorKind;

@@ -10,11 +10,11 @@ ghost use Rattle.duk_service.specs.OwnFiles.{IsLookedAt, IsNoOwnDisk, IsOwnDisk}
 
 use crate::left_records::{RecordFormat, Seen, look_at};
 use crate::log_files::{Access, LogFiles};
-use duk_explain::Strange;
+use crate::reason::Strange;
 use duk_store::StoreFault;
 
 /// Why the file of a log or a journal is not opened.
-#[derive(Clone, Copy)]
+#[derive(Clone, Copy, Debug, PartialEq, Eq)]
 pub enum OpenFault {
     /// It cannot be opened, or another uses it.
     Unopened,

@@ -3,18 +3,19 @@
 //!
 //! That a host over its journal fits in memory is required, as of one over its log.
 
-ghost use Rattle.std.specs.Prelude.{◌≡◌, ◌⊎◌, IfErr, IfOk, OnOk};
-ghost use Rattle.duk_host.specs.declared.fault.HostFault.{HostFault};
-ghost use Rattle.duk_io.specs.Sink.{IsHandedOn, IsUntouched};
+ghost use Rattle.std.specs.Prelude.{◌≡◌, IfErr, IfOk, OnOk};
+ghost use Rattle.duk_io.specs.Sink.{IsHandedOn};
 ghost use Rattle.duk_line.specs.Host.{host_meaning_of};
-ghost use Rattle.duk_service.specs.HandedOn.{IsLossTold};
 ghost use Rattle.duk_service.specs.HostSize.{JournalHostFits, JournalHostsFit};
 ghost use Rattle.duk_service.specs.Serve.{serving_of};
-ghost use Rattle.duk_service.specs.ServeJournal.{HasNotServedJournal, HasServedJournal, IsJournalServed, JournalServiceRefused, journal_host_of, journal_line, over_journal};
+ghost use Rattle.duk_service.specs.ServeJournal.{HasNotServedJournal, HasServedJournal, IsJournalServed, JournalServiceRefused, journal_host_of, over_journal};
+ghost use Rattle.duk_service.specs.ServeFault.{IsLossIn};
 ghost use Rattle.duk_tdes.specs.KeyBytes.{bytes_of};
 ghost use Rattle.duk_tdes.specs.Tdes.{IsTdesLength};
 
-use crate::ending::{JournalFault, hand_on, is_of_store, report_after, report_beside};
+use crate::left_records::RecordFormat;
+use crate::serve_end::end_service;
+use crate::serve_fault::ServeFault;
 use duk_config::{Config, open_hsm};
 use duk_host::{HostFault, Issuer, TableIssuer};
 use duk_io::{Sink, Source};
@@ -24,8 +25,7 @@ use duk_tdes::{Key, KeyBytes};
 use std::alloc::{AllocError, Global};
 
 /// Serves the frames of `input` with the host of a configuration over a journal, which is brought up
-/// first, and writes an answer to `output` for each. Gives the status: 0 where the input ends
-/// between two frames, or 1 with a line on `fault`.
+/// first, and writes an answer to `output` for each, until the input ends between two frames.
 ///
 /// A host over such a journal has to fit in memory, as one over any journal of this library does.
 ///
@@ -35,38 +35,26 @@ use std::alloc::{AllocError, Global};
 /// but where that is at a frame, and the answers to those before it cannot be written, it is `serve:
 /// write failed`. At the end `output` is flushed; where it cannot hand on what it holds back, `serve:
 /// write failed` stands in place of any but `journal: failed`, and behind that.
-pub fn serve_with_journal<J: Journal, R: Source, W: Sink, F: Sink>(
+pub fn serve_over_journal<J: Journal, R: Source, W: Sink>(
     alloc: Global,
     config: &Config,
     journal: J,
     input: &mut R,
     output: &mut W,
-    fault: &mut F,
-) -> u8
+) -> Result<(), ServeFault>
     requires fits { JournalHostsFit J.row J.Journal }
-    ensures status { (result ≡ 0) ⊎ (result ≡ 1) }
-    ensures done { result ≡ 0 → HasServedJournal (over_journal J.meaning)
+    ensures done { OnOk result (HasServedJournal (over_journal J.meaning)
         (journal_host_of config.now journal)
-        (serving_of R.known R.reads W.known input.old input.new output.old output.new) }
-    ensures no_fault { result ≡ 0 → IsUntouched (F.known fault.old) (F.known fault.new) }
-    ensures handed_on { result ≡ 0 → IsHandedOn (W.held_back output.new) }
-    ensures handed_on_at_fault { result ≡ 1 → IsHandedOn (W.held_back output.new)
-        ⊎ IsLossTold (journal_line HostFault.Stopped) (journal_line HostFault.Write)
-        (F.known fault.old) (F.known fault.new) }
-    ensures not_done { result ≡ 1 → HasNotServedJournal (over_journal J.meaning)
+        (serving_of R.known R.reads W.known input.old input.new output.old output.new)) }
+    ensures handed_on { OnOk result (IsHandedOn (W.held_back output.new)) }
+    ensures not_done { IfErr result (HasNotServedJournal (over_journal J.meaning)
         (journal_host_of config.now journal)
-        (serving_of R.known R.reads W.known input.old input.new output.old output.new)
-        (F.known fault.old) (F.known fault.new) }
+        (serving_of R.known R.reads W.known input.old input.new output.old output.new)) }
+    ensures handed_on_at_fault { IfErr result
+        (IsLossIn (IsHandedOn (W.held_back output.new))) }
 {
-    duk_io::laws::writes();
-    let lost = JournalFault {
-        why: HostFault::Write,
-    };
-    match serve_config(alloc, config, journal, input, output) {
-        Ok(()) => hand_on(&lost, output, fault),
-        Err(why) if is_of_store(why) => report_beside(&JournalFault { why }, &lost, output, fault),
-        Err(why) => report_after(&JournalFault { why }, &lost, output, fault),
-    }
+    let ended = serve_config(alloc, config, journal, input, output);
+    end_service(RecordFormat::Journal, ended, output)
 }
 
 /// Brings the host of a configuration up over a journal, and serves.

@@ -2,7 +2,6 @@
 
 ghost use Rattle.std.specs.Prelude.{◌≡◌, ◌≤◌, ◌++◌, length};
 ghost use Rattle.duk_commands.specs.Fault.{line_end};
-ghost use Rattle.duk_io.specs.Sink.{IsTried};
 ghost use Rattle.duk_show.specs.Fault.{show_line, stopped_text};
 
 use crate::decimal::push_decimal;
@@ -10,7 +9,6 @@ use crate::frame_fault::FrameFault;
 use crate::image_fault::ImageFault;
 use duk_block::BlockFault;
 use duk_commands::{Lines, push_end, push_text};
-use duk_io::{Sink, write_text};
 
 /// Why nothing is shown. Places are counted from 0.
 #[derive(Clone, Copy, Debug, PartialEq, Eq)]
@@ -115,13 +113,4 @@ fn stopped_line(kind: &str, place: usize, why: &str) -> Lines
     push_text(&mut line, why.as_bytes());
     push_end(&mut line);
     line
-}
-
-/// Writes the line of the fault and gives the status 1. What cannot be written of the line is lost.
-pub fn report<F: Sink>(fault: &mut F, why: ShowFault) -> u8
-    ensures status { result ≡ 1 }
-    ensures line { IsTried (F.known fault.old) (F.known fault.new) (show_line why) }
-{
-    let _ = write_text(fault, why.line().as_slice());
-    1
 }

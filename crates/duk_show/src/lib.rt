@@ -24,7 +24,7 @@ mod tallies;
 
 pub use block::block_lines;
 pub use checked_frame::checked_frame_lines;
-pub use fault::{ShowFault, report};
+pub use fault::ShowFault;
 pub use frame::frame_lines;
 pub use frame_fault::FrameFault;
 pub use image::image_lines;

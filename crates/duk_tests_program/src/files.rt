@@ -9,7 +9,7 @@ ghost use Rattle.duk_service.specs.LogFiles.{unknown_making};
 ghost use Rattle.duk_service.specs.declared.file_system.FileFault.TheVariants.{NoMemory};
 
 use crate::commands::arguments_of;
-use duk_program::{FileFault, FileSystem, LogFiles, Reason, run_arguments};
+use duk_program::{FileFault, FileSystem, LogFiles, Reason, run_program};
 use duk_service::Access;
 use duk_store::{MemDisk, StoreFault};
 use duk_tests_support::files::BANK;
@@ -226,13 +226,13 @@ fn of_command<S: FileSystem + LogFiles>(
 ) -> Option<(u8, Vec<u8>, Vec<u8>)>
     requires { (asked : Request) → MayUseOwn (S.may_write files.now) (S.may_make files.now) asked }
 {
-    let arguments = arguments_of(alloc, command).ok()?;
+    let mut arguments = arguments_of(alloc, command).ok()?;
     let (mut output, mut fault) = (Vec::new(alloc), Vec::new(alloc));
     let mut input = FIRST_REQUEST.as_slice();
-    let status = run_arguments(
+    let status = run_program(
         alloc,
         files,
-        arguments.as_slice(),
+        &mut arguments,
         &mut input,
         &mut output,
         &mut fault,

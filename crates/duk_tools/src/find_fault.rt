@@ -1,11 +1,9 @@
 //! Why nothing is found, and the line of each fault.
 
 ghost use Rattle.std.specs.Prelude.{◌≡◌, ◌≤◌, length};
-ghost use Rattle.duk_io.specs.Sink.{IsTried};
 ghost use Rattle.duk_tools.specs.FindFault.{find_line, find_text};
 
 use duk_commands::{Lines, push_end, push_text};
-use duk_io::{Sink, write_text};
 
 /// Why `find` finds nothing.
 #[derive(Clone, Copy, Debug, PartialEq, Eq)]
@@ -63,15 +61,5 @@ impl FindFault {
         push_text(&mut line, self.text().as_bytes());
         push_end(&mut line);
         line
-    }
-
-    /// Writes the line of the fault and gives the status 1. What cannot be written of the line is
-    /// lost.
-    pub fn report<F: Sink>(self, fault: &mut F) -> u8
-        ensures status { result ≡ 1 }
-        ensures line { IsTried (F.known fault.old) (F.known fault.new) (find_line self) }
-    {
-        let _ = write_text(fault, self.line().as_slice());
-        1
     }
 }

@@ -7,8 +7,8 @@ ghost use Rattle.duk_tools.specs.Progress.{progress_line, progress_step, step_of
 ghost use Rattle.duk_tools.specs.inner.Search.{IsProgressTold};
 
 use crate::sought::Sought;
-use duk_commands::{Lines, push_end, push_text};
-use duk_io::{Sink, write_text};
+use duk_commands::{Lines, push_end, push_text, tell};
+use duk_io::Sink;
 use itoa::Buffer;
 
 /// After how many numbers, each time, a search for this tells its progress, where it does.
@@ -48,7 +48,7 @@ pub(crate) fn tell_progress<F: Sink>(sought: &Sought, tried: u32, most: u32, fau
 fn tell_line<F: Sink>(tried: u32, most: u32, fault: &mut F)
     ensures { IsTried (F.known fault.old) (F.known fault.new) (progress_line most tried) }
 {
-    let _ = write_text(fault, line_of(tried, most).as_slice());
+    tell(fault, line_of(tried, most).as_slice());
 }
 
 /// The line of progress.

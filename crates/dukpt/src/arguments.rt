@@ -2,8 +2,8 @@
 
 ghost use Rattle.duk_program.specs.Status.{IsStatus};
 
-use duk_commands::{Fault, report};
-use duk_io::{Sink, write_text};
+use duk_commands::{Fault, tell};
+use duk_io::Sink;
 use std::rt::Env;
 use std::{env, io};
 
@@ -17,8 +17,9 @@ pub fn refuse_arguments<F: Sink>(error: &io::Error, fault: &mut F) -> u8
     ensures { IsStatus result }
 {
     if error.kind() == io::ErrorKind::OutOfMemory {
-        return report(fault, Fault::OutOfMemory);
+        tell(fault, Fault::OutOfMemory.line().as_slice());
+        return 1;
     }
-    let _ = write_text(fault, b"error: a word is not UTF-8\n");
+    tell(fault, b"error: a word is not UTF-8\n");
     2
 }

@@ -1,12 +1,10 @@
 -- What only private functions and proofs say beside `Batch.antt`: this project's own.
 use Rattle.std.specs.Prelude.{◌≡◌, ◌⊎◌, ◌++◌, ℕ, Bool, List, Result, Ok, Err, take}
-use Rattle.std.specs.Io.KnownBytes.{Consumes, Keeps}
+use Rattle.std.specs.Io.KnownBytes.{Consumes}
 use Rattle.std.specs.List.{list_all}
 use Rattle.std.specs.Str.Lines.{lines}
-use Rattle.duk_commands.specs.Fault.{report_line}
-use Rattle.duk_commands.specs.declared.fault.Fault.TheVariants.{WriteFailed}
-use Rattle.duk_io.specs.Known.{Known, Rose}
-use Rattle.duk_io.specs.Sink.{IsCut, IsDrained, IsTried, IsWritten}
+use Rattle.duk_io.specs.Known.{Known}
+use Rattle.duk_io.specs.Sink.{IsCut, IsDrained, IsWritten}
 use Rattle.duk_batch.specs.Batch.{AreAllReads, EndsWithin, Input, IsReadBroken, IsReadToEnd}
 use Rattle.duk_batch.specs.Item.{AreAnswers, ItemAnswer, ItemCommand, text_of}
 use Rattle.duk_batch.specs.declared.answer.Answer.{Answer}
@@ -106,9 +104,3 @@ IsEnd command input before now Unwritten =
 abbrev pub end_of : {E : Type 0} → Result Bool E → End
 end_of (Ok done) = Answered done
 end_of (Err failed) = Unwritten
-
--- what was held back could not be handed on, and that is reported
-pub record IsFlushReported (output output' fault fault' : Known) : Type 0 where
-  pub bytes : Keeps output.contents output'.contents
-  pub failed : Rose output.failures output'.failures
-  pub line : IsTried fault fault' (report_line WriteFailed)

@@ -1,14 +1,13 @@
-use Rattle.std.proofs.Common.{inr}
+use Rattle.duk_commands.specs.declared.fault.Fault.TheVariants.{WriteFailed}
+use Rattle.duk_program.specs.Show.{IsNotShown, IsShown, show_arguments}
+use Rattle.duk_program.specs.declared.fault.Fault.TheVariants as fault
+use Rattle.duk_program.proofs.Ends.{failed}
 use Rattle.duk_program.proofs.show.show_text.Goals as goal
 
-pub returns-in-0-clause-not_done : goal.returns-in-0-clause-not_done
-returns-in-0-clause-not_done g c one = inr (inr (record {
-  text = c.as_slice.result.now;
-  asked = rw c.as_slice.ensures.value c.in-Ok.ensures.text;
-  mid = _;
-  written = (c.print.ensures.done c.in-0.is).written;
-  reported = record {
-    flush = (c.hand_on.ensures.lost one).flush;
-    line = c.writes.ensures.tried_later _ _ _ _ (c.print.ensures.done c.in-0.is).no_fault (c.hand_on.ensures.lost one).line;
-  };
-}))
+pub returns-clause-not_done : goal.returns-clause-not_done
+returns-clause-not_done g c =
+    let arguments = show_arguments c.args.kind.now c.args.what.now c.args.show c.args.key (g.S.FileSystem.held c.args.files.now c.args.what.now) in
+    let before = g.W.Sink.known c.args.output.now in
+    failed (IsShown arguments before) (IsNotShown arguments before) c.print_text-ended.result (fault.Command WriteFailed) c.hand_on.result
+    (g.W.Sink.known c.print_text-ended.new.output) (g.W.Sink.known c.hand_on.new.output) c.print_text-ended.ensures.done c.print_text-ended.ensures.not_done
+    c.hand_on.ensures.end

@@ -1,7 +1,0 @@
-use Rattle.duk_program.proofs.configuration.refuse_config.Goals as goal
-
-pub returns-in-TooLong-clause-line : goal.returns-in-TooLong-clause-line
-returns-in-TooLong-clause-line g c = rw c.in-TooLong.is c.report_script.ensures.line
-
-pub returns-in-NoMemory-clause-line : goal.returns-in-NoMemory-clause-line
-returns-in-NoMemory-clause-line g c = rw c.in-NoMemory.is c.report_script-in-NoMemory.ensures.line

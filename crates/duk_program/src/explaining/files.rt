@@ -1,0 +1,137 @@
+//! What is told of faults of files and streams, before any file is asked.
+
+use crate::explaining::arguments::{DOUBLE, DOUBLE_OR_TRIPLE};
+use crate::explaining::paths::File;
+use crate::explaining::seen::{Found, Seen, words};
+use duk_config::{ConfigKey, ScriptFault};
+use duk_host::HostFault;
+use duk_service::{OpenFault, RecordFormat, ServeFault};
+
+/// What is told of a file where the system says no more.
+pub(crate) const NOT_OPENED: &str = "the system refuses it";
+
+/// What is told of a configuration whose line is not found.
+const NO_LINE: &str = "the line was not found";
+
+/// What is wanted of a configuration or a script that is too long.
+const MOST_TEXT: &str = "at most 1048576 bytes";
+
+/// A configuration or a script.
+pub(crate) fn of_script(why: &ScriptFault) -> Seen {
+    match why {
+        ScriptFault::ConfigTooLong => config("a longer file").wanted(MOST_TEXT),
+        ScriptFault::NotToml => config("other text").wanted("TOML in UTF-8"),
+        ScriptFault::UnknownKey(_) => {
+            config("another key").wanted("lmk, zone, loading, terminals, log, stores, bdk and card")
+        }
+        ScriptFault::BadKey(key) => config(NO_LINE).wanted(wanted_of(*key)),
+        ScriptFault::BadEntry(key, _) => config(NO_LINE).wanted(wanted_of_entry(*key)),
+        ScriptFault::CannotRead => unread("SCRIPT", File::Script),
+        ScriptFault::TooLong => longer("SCRIPT", File::Script).wanted(MOST_TEXT),
+        ScriptFault::NotAnEvent(line) => Seen::new("SCRIPT", Found::Line(*line))
+            .of(File::Script)
+            .wanted("an event, a comment after # or an empty line"),
+        ScriptFault::WriteFailed => output(),
+        ScriptFault::NoMemory => memory(),
+    }
+}
+
+/// What is wanted of a key of a configuration.
+fn wanted_of(key: ConfigKey) -> &'static str {
+    match key {
+        ConfigKey::Lmk | ConfigKey::Zone => DOUBLE_OR_TRIPLE,
+        ConfigKey::Loading => DOUBLE,
+        ConfigKey::Terminals => "1 to 16",
+        ConfigKey::Log => "1 to 100000",
+        ConfigKey::Stores => "memory or disk",
+        ConfigKey::Bdk => "1 to 8 tables",
+        ConfigKey::Card => "at most 1000 tables",
+    }
+}
+
+/// What is wanted of an entry of such a key.
+fn wanted_of_entry(key: ConfigKey) -> &'static str {
+    match key {
+        ConfigKey::Bdk => "prefix, 10 hexadecimal digits, and key, 32; each prefix once",
+        _ => "pan, 12 to 19 digits, pin, 4 to 12, and limit up to 4294967295; each pan once",
+    }
+}
+
+/// A service.
+pub(crate) fn of_serve(why: ServeFault) -> Seen {
+    match why {
+        ServeFault::NotOpened(format, OpenFault::Unopened) => unopened(name_of(format), format),
+        ServeFault::NotOpened(format, OpenFault::Failed | OpenFault::Foreign)
+        | ServeFault::Host(format, HostFault::Store(_) | HostFault::Stopped)
+        | ServeFault::StoreAndAnswers(format) => failed(format),
+        ServeFault::Host(_, HostFault::Read) => words("input", "a read failed").wanted("frames"),
+        ServeFault::Host(_, HostFault::Truncated) => {
+            words("input", "a part of a frame").wanted("whole frames")
+        }
+        ServeFault::Host(_, HostFault::TooLong) => {
+            words("input", "a length above 62").wanted("frames of requests")
+        }
+        ServeFault::Host(_, HostFault::Write) => output(),
+        ServeFault::Host(_, HostFault::NoMemory) => memory(),
+    }
+}
+
+/// What a file of this format is called.
+pub(crate) fn name_of(format: RecordFormat) -> &'static str {
+    match format {
+        RecordFormat::Log => "log",
+        RecordFormat::Journal => "journal",
+    }
+}
+
+/// A configuration.
+fn config(told: &'static str) -> Seen {
+    words("CONFIG", told).of(File::Config)
+}
+
+/// A file that is not read.
+pub(crate) fn unread(name: &'static str, file: File) -> Seen {
+    words(name, NOT_OPENED)
+        .of(file)
+        .wanted("a file that can be read")
+}
+
+/// A file that is too long.
+pub(crate) fn longer(name: &'static str, file: File) -> Seen {
+    words(name, "a longer file").of(file)
+}
+
+/// A log, a ledger or a journal that is not opened and locked.
+pub(crate) fn unopened(name: &'static str, format: RecordFormat) -> Seen {
+    words(name, NOT_OPENED).of(File::Kept).wanted(match format {
+        RecordFormat::Log => "a log, as new-log makes one, that no other uses",
+        RecordFormat::Journal => "a journal, as new-journal makes one, that no other uses",
+    })
+}
+
+/// A log or a journal that failed.
+pub(crate) fn failed(format: RecordFormat) -> Seen {
+    words(name_of(format), "wrong records, or a step that failed")
+        .of(File::Kept)
+        .wanted(match format {
+            RecordFormat::Log => "a log as it was kept, on a device that works",
+            RecordFormat::Journal => "a journal as it was kept, on a device that works",
+        })
+}
+
+/// A file that is not made.
+pub(crate) fn unmade(name: &'static str) -> Seen {
+    words(name, NOT_OPENED)
+        .of(File::New)
+        .wanted("a name that no file has, in a folder with room")
+}
+
+/// An output that is not written.
+pub(crate) fn output() -> Seen {
+    words("output", "a write failed").wanted("a device with room, or a reader")
+}
+
+/// Memory that is refused.
+pub(crate) fn memory() -> Seen {
+    words("memory", "refused").wanted("more memory")
+}
