@@ -1,90 +1,144 @@
--- The arguments of each request make it.
-use Rattle.std.proofs.Common.{◌∷◌, codes}
-use Rattle.clap.specs.Walk.{Text}
-use Rattle.duk_arguments.specs.Written.{IsPlainRequest, arguments_of}
-use Rattle.duk_arguments.specs.declared.request.Request.{Request}
-use Rattle.duk_arguments.specs.declared.request.Request.TheVariants as request
-use Rattle.duk_arguments.proofs.Entered.{leaf_of, enters_derive, enters_walk, enters_pin, enters_wrap, enters_unwrap, enters_run, enters_serve, enters_initial, enters_registers, enters_kcv, enters_mac, enters_data, enters_unpin, enters_translate, enters_request, enters_reply, enters_find, enters_show, enters_issue, enters_new_log, enters_new_journal, enters_copy_journal}
-use Rattle.duk_arguments.proofs.TopLevel.{Make, make}
-use Rattle.duk_arguments.proofs.ReadBlocks.{reads_mac, reads_data, reads_pin, reads_unpin, reads_translate, reads_wrap, reads_unwrap, reads_show, reads_check_frame}
-use Rattle.duk_arguments.proofs.ReadFiles.{reads_run, reads_serve, reads_new_log, reads_new_journal, reads_copy_journal}
-use Rattle.duk_arguments.proofs.ReadFind.{reads_find}
-use Rattle.duk_arguments.proofs.ReadFrames.{reads_request, reads_reversal, reads_reply}
-use Rattle.duk_arguments.proofs.ReadKcv.{reads_kcv}
-use Rattle.duk_arguments.proofs.ReadKeys.{reads_derive, reads_walk, reads_initial, reads_issue, reads_registers}
+-- The arguments of a request make it.
+use Rattle.std.proofs.Common.{Bool, List, Option, Some, [], ap, ap₂, bytes_eq, false, filter, find, flat_map, fold, inl, inr, is_some, map, not, refl, slice_get, subst, sym, true, ℕ, ◌&&◌, ◌++◌, ◌∙◌, ◌∷◌, ◌≡◌}
+use Rattle.std.proofs.lemmas.Bool.{cases_Bool}
+use Rattle.std.specs.List.{AllByRecursion, list_any}
+use Rattle.clap.specs.Kinds.{Kinds, check_kinds, or_else}
+use Rattle.clap.specs.Faults.{fault_of}
+use Rattle.clap.specs.Simple.{Shape, rows_at, subcommand_of}
+use Rattle.clap.specs.Walk.{Row, Rule, Text, Walk, finished, has_row, settled, walk, walked, with_default}
+use Rattle.duk_arguments.specs.Asked.{Asks, AsksAfter, AsksFor, entries_found, texts_found}
+use Rattle.duk_arguments.specs.CommandLine.{Parameter, command_line, row_of}
+use Rattle.duk_arguments.specs.Request.{Written, texts_in}
+use Rattle.duk_arguments.specs.Written.{AreAsMany, IsInForm, IsPlainArgument, arguments_of, entries_under, words_of}
+use Rattle.duk_arguments.specs.declared.commands.name.CommandName.{CommandName}
+use Rattle.duk_arguments.proofs.Entered.{IsKnown, is_known}
+use Rattle.duk_arguments.proofs.Leavings.{all_found, all_unflagged, defaults_quiet, none_missing, row_left, rows_left}
+use Rattle.duk_arguments.proofs.Named.{one_asked}
+use Rattle.duk_arguments.proofs.Parameters.{AreFresh, ArePlaced, AreWritten, reads_all, rows_of_all, words_of_all}
+use Rattle.duk_arguments.proofs.Placed.{Given, fixed_placed, given_of, request_placed}
+use Rattle.duk_arguments.proofs.Steps.{Reads, Stands}
+use Rattle.duk_arguments.proofs.TopLevel.{IsRead, end_fault, is_taken, is_used, leaf_of, level_is_quiet, start}
+use Rattle.clap.specs.Takes.{is_given}
+use Rattle.duk_arguments.proofs.Rows.{row_at}
 
--- a request that is written after the program's name is made
-pub all_made : (program : Text) (asked : Request) → IsPlainRequest asked
-    → Make (program ∷ arguments_of asked) asked
-all_made program (request.Derive bdk ksn initial trace all) plain =
-    make program (leaf_of (codes "derive")) (request.Derive bdk ksn initial trace all) enters_derive
-    (reads_derive bdk ksn initial trace all plain)
-all_made program (request.Walk bdk iksn count skip alone initial) plain =
-    make program (leaf_of (codes "walk")) (request.Walk bdk iksn count skip alone initial) enters_walk
-    (reads_walk bdk iksn count skip alone initial plain)
-all_made program (request.Pin pin pan key) plain =
-    make program (leaf_of (codes "pin")) (request.Pin pin pan key) enters_pin
-    (reads_pin pin pan key plain)
-all_made program (request.Wrap kbpk fields key pad) plain =
-    make program (leaf_of (codes "wrap")) (request.Wrap kbpk fields key pad) enters_wrap
-    (reads_wrap kbpk fields key pad plain)
-all_made program (request.Unwrap kbpk block) plain =
-    make program (leaf_of (codes "unwrap")) (request.Unwrap kbpk block) enters_unwrap
-    (reads_unwrap kbpk block plain)
-all_made program (request.Run config script journal) plain =
-    make program (leaf_of (codes "run")) (request.Run config script journal) enters_run
-    (reads_run config script journal plain)
-all_made program (request.Serve config keeping) plain =
-    make program (leaf_of (codes "serve")) (request.Serve config keeping) enters_serve
-    (reads_serve config keeping plain)
-all_made program (request.NewLog file records) plain =
-    make program (leaf_of (codes "new-log")) (request.NewLog file records) enters_new_log
-    (reads_new_log file records plain)
-all_made program (request.NewJournal file records) plain =
-    make program (leaf_of (codes "new-journal")) (request.NewJournal file records) enters_new_journal
-    (reads_new_journal file records plain)
-all_made program (request.CopyJournal old new) plain =
-    make program (leaf_of (codes "copy-journal")) (request.CopyJournal old new) enters_copy_journal
-    (reads_copy_journal old new plain)
-all_made program (request.Initial bdk iksn) plain =
-    make program (leaf_of (codes "initial")) (request.Initial bdk iksn) enters_initial
-    (reads_initial bdk iksn plain)
-all_made program (request.Registers bdk ksn initial) plain =
-    make program (leaf_of (codes "registers")) (request.Registers bdk ksn initial) enters_registers
-    (reads_registers bdk ksn initial plain)
-all_made program (request.Kcv keys components show) plain =
-    make program (leaf_of (codes "kcv")) (request.Kcv keys components show) enters_kcv
-    (reads_kcv keys components show plain)
-all_made program (request.Mac key text cmac hex) plain =
-    make program (leaf_of (codes "mac")) (request.Mac key text cmac hex) enters_mac
-    (reads_mac key text cmac hex plain)
-all_made program (request.Data key text iv decipher hex) plain =
-    make program (leaf_of (codes "data")) (request.Data key text iv decipher hex) enters_data
-    (reads_data key text iv decipher hex plain)
-all_made program (request.Unpin block pan key show) plain =
-    make program (leaf_of (codes "unpin")) (request.Unpin block pan key show) enters_unpin
-    (reads_unpin block pan key show plain)
-all_made program (request.Translate block pan bdk ksn zone initial) plain =
-    make program (leaf_of (codes "translate")) (request.Translate block pan bdk ksn zone initial) enters_translate
-    (reads_translate block pan bdk ksn zone initial plain)
-all_made program (request.MakeRequest bdk ksn pan pin amount initial) plain =
-    make program (leaf_of (codes "request")) (request.MakeRequest bdk ksn pan pin amount initial) enters_request
-    (reads_request bdk ksn pan pin amount initial plain)
-all_made program (request.MakeReversal bdk ksn reversed initial) plain =
-    make program (leaf_of (codes "request")) (request.MakeReversal bdk ksn reversed initial) enters_request
-    (reads_reversal bdk ksn reversed initial plain)
-all_made program (request.CheckReply bdk asked answer initial) plain =
-    make program (leaf_of (codes "reply")) (request.CheckReply bdk asked answer initial) enters_reply
-    (reads_reply bdk asked answer initial plain)
-all_made program (request.Find bdk what seeking window initial) plain =
-    make program (leaf_of (codes "find")) (request.Find bdk what seeking window initial) enters_find
-    (reads_find bdk what seeking window initial plain)
-all_made program (request.CheckFrame what bdk show initial) plain =
-    make program (leaf_of (codes "show")) (request.CheckFrame what bdk show initial) enters_show
-    (reads_check_frame what bdk show initial plain)
-all_made program (request.Show kind what show) plain =
-    make program (leaf_of (codes "show")) (request.Show kind what show) enters_show
-    (reads_show kind what show plain)
-all_made program (request.Issue bdk loading iksn count ledger way) plain =
-    make program (leaf_of (codes "issue")) (request.Issue bdk loading iksn count ledger way)
-    enters_issue (reads_issue bdk loading iksn count ledger way.kcv way.out way.skip_issued way.again plain)
+-- the texts under a name are as plain as all
+plain_under : (name : Text) (entries : List (Text × Text))
+    → AllByRecursion (λ (entry : Text × Text). IsPlainArgument entry.1) entries
+    → AllByRecursion IsPlainArgument (map (λ (entry : Text × Text). entry.1)
+    (filter (λ (entry : Text × Text). bytes_eq entry.0 name) entries))
+plain_under name [] plain = tt
+plain_under name (entry ∷ rest) plain = elim (cases_Bool (bytes_eq entry.0 name)) [
+  | inl same ↦ rw same (plain.0, plain_under name rest plain.1)
+  | inr other ↦ rw other (plain_under name rest plain.1)
+]
+
+module _ (request : Written) (form : IsInForm request) where
+  abbrev parameters : List Parameter
+  parameters = (row_of request.command).parameters
+
+  abbrev texts : Text → List Text
+  texts name = texts_in name request
+
+  abbrev leaf : Shape
+  leaf = leaf_of (row_of request.command)
+
+  abbrev words : List Text
+  words = words_of_all texts parameters
+
+  -- what is found after the command
+  abbrev found : List Row
+  found = fold with_default (rows_of_all texts parameters) leaf.rules
+
+  known : IsKnown request.command
+  known = is_known request.command
+
+  all_written : (some : List Parameter)
+      → AllByRecursion (λ (p : Parameter). AreAsMany p.kind (texts_in p.name request)) some → AreWritten texts some
+  all_written [] many = tt
+  all_written (p ∷ rest) many =
+      ((many.0, plain_under p.name request.entries form.plain), all_written rest many.1)
+
+  all_given : (some : List Parameter)
+      → AllByRecursion (λ (p : Parameter). AreAsMany p.kind (texts_in p.name request)) some
+      → AllByRecursion (λ (g : Given). AreAsMany g.0 g.1) (map (λ (p : Parameter). (p.kind, texts_in p.name request)) some)
+  all_given [] many = tt
+  all_given (p ∷ rest) many = (many.0, all_given rest many.1)
+
+  all_placed : ArePlaced 1 1 (given_of request request.command)
+  all_placed = elim known.fixed [
+    | inl is ↦ request_placed request is form.fits (all_given parameters form.many)
+    | inr fixed ↦ fixed_placed 1 (given_of request request.command) (fixed request) (all_given parameters form.many)
+  ]
+
+  nothing_fresh : (some : List Parameter) → AreFresh [] some
+  nothing_fresh [] = tt
+  nothing_fresh (p ∷ rest) = (refl, nothing_fresh rest)
+
+  starts : Stands leaf start []
+  starts = record {
+    on = record { goes = refl; reads = refl };
+    takes = λ word h. refl;
+    settles = refl;
+    quiet = refl;
+    apart = λ name absent. refl;
+  }
+
+  read : (last : ℕ) × Reads leaf start words (rows_of_all texts parameters) last
+  read = reads_all texts leaf start [] 1 1 parameters starts refl (nothing_fresh parameters) known.apart
+      known.met (all_written parameters form.many) all_placed
+
+  left : AllByRecursion (λ (p : Parameter). row_at p.name (rows_of_all texts parameters) ≡ row_left p.name (texts p.name)) parameters
+  left = rows_left texts [] parameters (nothing_fresh parameters) known.apart
+
+  end_quiet : end_fault leaf false (fold (walked leaf.rules []) start words).held ≡ []
+  end_quiet =
+      ap₂ or_else read.1.stands.quiet
+      (ap₂ or_else (defaults_quiet 1 parameters (settled leaf.rules (fold (walked leaf.rules []) start words).held).rows)
+      (ap (λ (rows : List Row). check_kinds false false (list_any
+      (λ (a : Rule). a.required && not (is_given a.id (fold with_default rows leaf.rules))) leaf.rules))
+      read.1.stands.settles
+      ∙ ap (check_kinds false false)
+      (none_missing texts 1 parameters leaf.rules (rows_of_all texts parameters)
+      (all_written parameters form.many) left)))
+
+  is_read : IsRead leaf words found
+  is_read = record {
+    quiet = level_is_quiet leaf [] words false [] (fold (walked leaf.rules []) start words) read.1.quiet refl refl
+        end_quiet;
+    rows = ap (λ (rows : List Row). fold with_default rows leaf.rules) read.1.stands.settles;
+  }
+
+  -- what was found is what the request has
+  same_entries : (some : List Parameter)
+      → AllByRecursion (λ (p : Parameter). texts_found p.kind p.name found ≡ texts p.name) some
+      → flat_map (entries_found found) some ≡ flat_map (entries_under request) some
+  same_entries [] same = refl
+  same_entries (p ∷ rest) same =
+      ap₂ (λ (own : List Text) (others : List (Text × Text)). map (λ text. (p.name, text)) own ++ others)
+      same.0 (same_entries rest same.1)
+
+  entries_are : request.entries ≡ flat_map (entries_found found) parameters
+  entries_are = form.order ∙ sym (same_entries parameters
+      (all_found texts 1 parameters leaf.rules (rows_of_all texts parameters) (all_written parameters form.many)
+      (all_unflagged 1 parameters) known.met left))
+
+  asked : AsksFor leaf.name found request
+  asked = (refl, entries_are, form.fits)
+
+  only_asked : (other : Written) → AsksFor leaf.name found other → other ≡ request
+  only_asked other also = one_asked request.command found other also
+      ∙ ap (λ (entries : List (Text × Text)). record { command = request.command; entries = entries })
+      (sym entries_are)
+
+  module _ (program : Text) where
+    used : subcommand_of command_line (program ∷ arguments_of request) ≡ Some (leaf.name, found)
+    used = is_used (row_of request.command).name leaf known.enters words program found is_read
+
+    pub taken : fault_of command_line (program ∷ arguments_of request) ≡ []
+    taken = is_taken (row_of request.command).name leaf known.enters words program found is_read
+
+    pub asks : Asks (program ∷ arguments_of request) request
+    asks = subst (λ (o : Option (Text × List Row)). AsksAfter o request) (sym used) asked
+
+    pub only : (other : Written) → Asks (program ∷ arguments_of request) other → other ≡ request
+    only other also = only_asked other (subst (λ (o : Option (Text × List Row)). AsksAfter o other) used also)

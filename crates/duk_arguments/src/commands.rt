@@ -1,11 +1,10 @@
 //! The program, with its commands, as `clap` reads them.
 
-ghost use Rattle.std.specs.Prelude.{◌≡◌, [], IfOk, IfSome, IsSome, map};
+ghost use Rattle.std.specs.Prelude.{◌≡◌, [], IfOk, bytes_eq, find};
 ghost use Rattle.clap.specs.Words.{app_of};
-ghost use Rattle.duk_arguments.specs.CommandLine.{command_line, program_shape};
-ghost use Rattle.duk_arguments.specs.Given.{name_of};
-ghost use Rattle.duk_arguments.specs.declared.request.Request.{Request};
-ghost use Rattle.duk_arguments.specs.inner.CommandLine.{shape_named, shape_of_usage};
+ghost use Rattle.duk_arguments.specs.CommandLine.{all_commands, command_line, program_shape, row_of};
+ghost use Rattle.duk_arguments.specs.Request.{may_refer};
+ghost use Rattle.duk_arguments.specs.inner.CommandLine.{row_of_usage};
 
 pub(crate) mod arguments;
 mod blocks;
@@ -25,7 +24,7 @@ const VERSION: &str = "0.1.0";
 
 /// The program's commands, in the order in which help lists them.
 fn commands() -> [CommandName; 22]
-    ensures { map shape_named result ≡ command_line.subs }
+    ensures { result ≡ all_commands }
 {
     [
         CommandName::Derive,
@@ -55,7 +54,7 @@ fn commands() -> [CommandName; 22]
 
 /// How a command is used.
 pub(crate) fn usage_of<'a>(command: CommandName) -> Usage<'a>
-    ensures { shape_of_usage result ≡ shape_named command }
+    ensures { row_of_usage result ≡ row_of command }
 {
     match command {
         CommandName::Derive => keys::derive(),
@@ -85,8 +84,7 @@ pub(crate) fn usage_of<'a>(command: CommandName) -> Usage<'a>
 
 /// The command that is written so, where there is one.
 pub(crate) fn command_named(name: &str) -> Option<CommandName>
-    ensures named { IfSome result (λ command. (shape_named command).name ≡ name.now) }
-    ensures all { (request : Request) → name.now ≡ name_of request → IsSome result }
+    ensures { result ≡ find (λ command. bytes_eq (row_of command).name name.now) all_commands }
 {
     for command in &commands() {
         if usage_of(*command).name == name {
@@ -94,6 +92,18 @@ pub(crate) fn command_named(name: &str) -> Option<CommandName>
         }
     }
     None
+}
+
+/// Whether the text of an argument of a command may be a reference.
+pub(crate) fn may_refer(command: CommandName, name: &str) -> bool
+    ensures { result ≡ may_refer name.now (row_of command) }
+{
+    for argument in usage_of(command).arguments {
+        if argument.may_refer() && argument.name() == name {
+            return true;
+        }
+    }
+    false
 }
 
 /// The program with its commands.

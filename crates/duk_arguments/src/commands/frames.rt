@@ -1,15 +1,17 @@
 //! The commands over frames, and the one that finds what made one.
 
 ghost use Rattle.std.specs.Prelude.{◌≡◌};
-ghost use Rattle.duk_arguments.specs.CommandLine.{request_command, reply_command, find_command};
-ghost use Rattle.duk_arguments.specs.inner.CommandLine.{shape_of_usage};
+ghost use Rattle.duk_arguments.specs.CommandLine.{row_of};
+ghost use Rattle.duk_arguments.specs.inner.CommandLine.{row_of_usage};
 
+use super::arguments::Form::{Plain, Reference};
 use super::arguments::{Argument, BDK, INITIAL_KEY, KSN, Usage};
+use super::name::CommandName;
 use crate::help::frames as help;
 
 /// `request BDK KSN [PAN] [PIN] [AMOUNT] [--reverse NUMBER] [--initial]`
 pub(super) fn request<'a>() -> Usage<'a>
-    ensures { shape_of_usage result ≡ request_command }
+    ensures { row_of_usage result ≡ row_of CommandName.Request }
 {
     Usage {
         name: "request",
@@ -18,10 +20,15 @@ pub(super) fn request<'a>() -> Usage<'a>
         arguments: &[
             BDK,
             KSN,
-            Argument::Optional("PAN", "The PAN, 12 to 19 digits with its check digit"),
-            Argument::Optional("PIN", "The PIN, 4 to 12 digits"),
-            Argument::Optional("AMOUNT", "The amount, a number up to 4294967295"),
+            Argument::Optional(
+                Reference,
+                "PAN",
+                "The PAN, 12 to 19 digits with its check digit",
+            ),
+            Argument::Optional(Reference, "PIN", "The PIN, 4 to 12 digits"),
+            Argument::Optional(Plain, "AMOUNT", "The amount, a number up to 4294967295"),
             Argument::Valued(
+                Plain,
                 "reverse",
                 "NUMBER",
                 "Reverses this key serial number, and takes no PAN, PIN and AMOUNT",
@@ -33,7 +40,7 @@ pub(super) fn request<'a>() -> Usage<'a>
 
 /// `reply BDK REQUEST ANSWER [--initial]`
 pub(super) fn reply<'a>() -> Usage<'a>
-    ensures { shape_of_usage result ≡ reply_command }
+    ensures { row_of_usage result ≡ row_of CommandName.Reply }
 {
     Usage {
         name: "reply",
@@ -41,8 +48,12 @@ pub(super) fn reply<'a>() -> Usage<'a>
         after_help: help::REPLY,
         arguments: &[
             BDK,
-            Argument::Needed("REQUEST", "The request frame or reversal in hexadecimal"),
-            Argument::Needed("ANSWER", "The answer frame in hexadecimal"),
+            Argument::Needed(
+                Plain,
+                "REQUEST",
+                "The request frame or reversal in hexadecimal",
+            ),
+            Argument::Needed(Plain, "ANSWER", "The answer frame in hexadecimal"),
             INITIAL_KEY,
         ],
     }
@@ -51,7 +62,7 @@ pub(super) fn reply<'a>() -> Usage<'a>
 /// `find BDK WHAT [--from KSN] [--window N] [--text TEXT] [--hex] [--pan PAN] [--clear BLOCK]
 /// [--initial]`
 pub(super) fn find<'a>() -> Usage<'a>
-    ensures { shape_of_usage result ≡ find_command }
+    ensures { row_of_usage result ≡ row_of CommandName.Find }
 {
     Usage {
         name: "find",
@@ -60,23 +71,32 @@ pub(super) fn find<'a>() -> Usage<'a>
         arguments: &[
             BDK,
             Argument::Needed(
+                Reference,
                 "WHAT",
                 "A frame in hexadecimal, or with --text, --pan or --clear 16 hexadecimal digits",
             ),
             Argument::Valued(
+                Plain,
                 "from",
                 "KSN",
                 "Begins at this key serial number; of a frame it may be left out",
             ),
             Argument::Valued(
+                Plain,
                 "window",
                 "N",
                 "Tries N numbers at most, 1 to 100000; without it 100000",
             ),
-            Argument::Valued("text", "TEXT", "WHAT is the MAC of this text"),
+            Argument::Valued(Plain, "text", "TEXT", "WHAT is the MAC of this text"),
             Argument::Flag("hex", "TEXT is bytes in hexadecimal"),
-            Argument::Valued("pan", "PAN", "WHAT is a PIN block of this PAN, enciphered"),
             Argument::Valued(
+                Reference,
+                "pan",
+                "PAN",
+                "WHAT is a PIN block of this PAN, enciphered",
+            ),
+            Argument::Valued(
+                Reference,
                 "clear",
                 "BLOCK",
                 "WHAT is this block enciphered, 16 hexadecimal digits",

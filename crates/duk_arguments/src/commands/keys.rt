@@ -1,15 +1,17 @@
 //! The commands over keys.
 
 ghost use Rattle.std.specs.Prelude.{◌≡◌};
-ghost use Rattle.duk_arguments.specs.CommandLine.{derive_command, walk_command, initial_command, issue_command, registers_command, kcv_command};
-ghost use Rattle.duk_arguments.specs.inner.CommandLine.{shape_of_usage};
+ghost use Rattle.duk_arguments.specs.CommandLine.{row_of};
+ghost use Rattle.duk_arguments.specs.inner.CommandLine.{row_of_usage};
 
+use super::arguments::Form::{Plain, Reference};
 use super::arguments::{Argument, BDK, IKSN, INITIAL_KEY, KSN, Usage};
+use super::name::CommandName;
 use crate::help::keys as help;
 
 /// `derive BDK KSN [--initial] [--trace] [--all]`
 pub(super) fn derive<'a>() -> Usage<'a>
-    ensures { shape_of_usage result ≡ derive_command }
+    ensures { row_of_usage result ≡ row_of CommandName.Derive }
 {
     Usage {
         name: "derive",
@@ -30,7 +32,7 @@ pub(super) fn derive<'a>() -> Usage<'a>
 
 /// `walk BDK IKSN COUNT [--skip K] [--ksn] [--initial]`
 pub(super) fn walk<'a>() -> Usage<'a>
-    ensures { shape_of_usage result ≡ walk_command }
+    ensures { row_of_usage result ≡ row_of CommandName.Walk }
 {
     Usage {
         name: "walk",
@@ -39,8 +41,8 @@ pub(super) fn walk<'a>() -> Usage<'a>
         arguments: &[
             BDK,
             IKSN,
-            Argument::Needed("COUNT", "How many numbers to print, at most 1048576"),
-            Argument::Valued("skip", "K", "Skips K numbers before printing"),
+            Argument::Needed(Plain, "COUNT", "How many numbers to print, at most 1048576"),
+            Argument::Valued(Plain, "skip", "K", "Skips K numbers before printing"),
             Argument::Flag("ksn", "Prints the key serial numbers alone"),
             INITIAL_KEY,
         ],
@@ -49,7 +51,7 @@ pub(super) fn walk<'a>() -> Usage<'a>
 
 /// `initial BDK IKSN`
 pub(super) fn initial<'a>() -> Usage<'a>
-    ensures { shape_of_usage result ≡ initial_command }
+    ensures { row_of_usage result ≡ row_of CommandName.Initial }
 {
     Usage {
         name: "initial",
@@ -61,7 +63,7 @@ pub(super) fn initial<'a>() -> Usage<'a>
 
 /// `issue BDK LOADING IKSN COUNT --ledger FILE [--bdk-kcv KCV] [--out FILE] [--skip-issued] [--again]`
 pub(super) fn issue<'a>() -> Usage<'a>
-    ensures { shape_of_usage result ≡ issue_command }
+    ensures { row_of_usage result ≡ row_of CommandName.Issue }
 {
     Usage {
         name: "issue",
@@ -70,25 +72,34 @@ pub(super) fn issue<'a>() -> Usage<'a>
         arguments: &[
             BDK,
             Argument::Needed(
+                Reference,
                 "LOADING",
                 "The key block protection key of the loading blocks, 32 or 48 hexadecimal digits",
             ),
             Argument::Needed(
+                Plain,
                 "IKSN",
                 "The first initial key serial number, 20 hexadecimal digits",
             ),
-            Argument::Needed("COUNT", "How many initial keys to issue, at most 524288"),
+            Argument::Needed(
+                Plain,
+                "COUNT",
+                "How many initial keys to issue, at most 524288",
+            ),
             Argument::Named(
+                Plain,
                 "ledger",
                 "FILE",
                 "Keeps the issued numbers in this file, which has to be there",
             ),
             Argument::Valued(
+                Plain,
                 "bdk-kcv",
                 "KCV",
                 "Issues nothing unless BDK has this check value, 6 hexadecimal digits",
             ),
             Argument::Valued(
+                Plain,
                 "out",
                 "FILE",
                 "Writes the lines to this file, which is made, and syncs each before the next",
@@ -107,7 +118,7 @@ pub(super) fn issue<'a>() -> Usage<'a>
 
 /// `registers BDK KSN [--initial]`
 pub(super) fn registers<'a>() -> Usage<'a>
-    ensures { shape_of_usage result ≡ registers_command }
+    ensures { row_of_usage result ≡ row_of CommandName.Registers }
 {
     Usage {
         name: "registers",
@@ -119,14 +130,18 @@ pub(super) fn registers<'a>() -> Usage<'a>
 
 /// `kcv KEY.. [--components] [--show]`
 pub(super) fn kcv<'a>() -> Usage<'a>
-    ensures { shape_of_usage result ≡ kcv_command }
+    ensures { row_of_usage result ≡ row_of CommandName.Kcv }
 {
     Usage {
         name: "kcv",
         about: "Prints the check values of keys, or of the components of a key and of the key",
         after_help: help::KCV,
         arguments: &[
-            Argument::Several("KEY", "A key, 32 or 48 hexadecimal digits; 1 to 16 keys"),
+            Argument::Several(
+                Reference,
+                "KEY",
+                "A key, 32 or 48 hexadecimal digits; 1 to 16 keys",
+            ),
             Argument::Flag(
                 "components",
                 "The keys are components of one key, whose check values come last",
