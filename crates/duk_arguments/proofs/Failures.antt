@@ -7,7 +7,7 @@ use Rattle.clap.specs.Words.{App, IsAmong, Row, Text, fault_of, is_simple_and_fr
 use Rattle.clap.specs.declared.parser.matches.ArgMatches.{ArgMatches}
 use Rattle.clap.specs.declared.error.kind.ErrorKind.{ErrorKind}
 use Rattle.clap.specs.declared.error.kind.ErrorKind.TheVariants.{ArgumentConflict, OutOfMemory}
-use Rattle.duk_arguments.specs.Asked.{AskForNothing, AsksAfter, AsksFor, IsNoRequestOf, entries_found, is_shown}
+use Rattle.duk_arguments.specs.Asked.{AsksAfter, AsksFor, IsNoRequestOf, entries_found, is_shown}
 use Rattle.duk_arguments.specs.inner.Asked.{IsNoRequestAfter, IsReportedAs}
 use Rattle.duk_arguments.specs.CommandLine.{all_commands, command_line, row_of}
 use Rattle.duk_arguments.specs.declared.request.NoRequest.{NoRequest}

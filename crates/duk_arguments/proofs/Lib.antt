@@ -1,14 +1,13 @@
-mod Entered
 mod Failures
 mod FoundRows
+mod Given
+mod Known
 mod Leavings
 mod Loops
 mod Named
 mod Parameters
-mod Placed
 mod References
 mod Rows
-mod Several
 mod Steps
 mod TopLevel
 mod WithoutACommand

@@ -1,7 +1,7 @@
 -- A loop's step over a list that is mapped.
-use Rattle.std.proofs.Common.{◌≡◌, ◌<◌, ◌∷◌, ◌∙◌, ◌++◌, ◌+◌, [], ℕ, Bool, List, ap, ap₂, drop, filter, get_or, length, map, refl, suc, sym, take, true}
+use Rattle.std.proofs.Common.{◌≡◌, ◌<◌, ◌∷◌, ◌∙◌, ◌++◌, [], ℕ, Bool, List, ap, ap₂, drop, filter, get_or, length, map, refl, suc, sym, take, true}
 use Rattle.std.proofs.Math.Seq.{drop-cons}
-use Rattle.std.proofs.lemmas.List.{map-append, take-append-drop, take_more}
+use Rattle.std.proofs.lemmas.List.{map-append, take-append-drop}
 use Rattle.std.proofs.lemmas.List.Elements.{filter-append}
 use Rattle.std.proofs.lemmas.List.Folds.{list_any_at}
 use Rattle.std.specs.List.{list_any}

@@ -1,38 +1,17 @@
 -- A command is found by its name.
-use Rattle.std.proofs.Common.{List, Some, [], ap, ap₂, bytes_eq, false, find, flat_map, inl, inr, refl, sym, true, ◌∙◌, ◌∷◌, ◌≡◌}
+use Rattle.std.proofs.Common.{List, Some, [], ap, ap₂, bytes_eq, find, flat_map, inl, inr, sym, ◌∙◌, ◌∷◌, ◌≡◌}
 use Rattle.clap.specs.Words.{Row, Text}
 use Rattle.duk_arguments.specs.Asked.{AsksFor, entries_found}
 use Rattle.duk_arguments.specs.CommandLine.{all_commands, row_of}
 use Rattle.duk_arguments.specs.Request.{Written}
 use Rattle.duk_arguments.specs.declared.commands.name.CommandName.{CommandName}
-use Rattle.duk_arguments.specs.declared.commands.name.CommandName.TheVariants as name
+use Rattle.duk_arguments.proofs.Known.{Facts, known}
 use Rattle.std.proofs.lemmas.Bool.{cases_Bool}
 use Rattle.std.proofs.lemmas.Slice.Eq.{bytes_eq-Decides}
 
 pub named : (command : CommandName)
     → find (λ other. bytes_eq (row_of other).name (row_of command).name) all_commands ≡ Some command
-named name.Derive = refl
-named name.Walk = refl
-named name.Initial = refl
-named name.Issue = refl
-named name.Registers = refl
-named name.Kcv = refl
-named name.Mac = refl
-named name.Data = refl
-named name.Pin = refl
-named name.Unpin = refl
-named name.Translate = refl
-named name.Wrap = refl
-named name.Unwrap = refl
-named name.Show = refl
-named name.Request = refl
-named name.Reply = refl
-named name.Find = refl
-named name.Run = refl
-named name.Serve = refl
-named name.NewLog = refl
-named name.NewJournal = refl
-named name.CopyJournal = refl
+named command = ap (λ (f : Facts). f.named) (known (λ name. []) command)
 
 same_command : (a b : CommandName) → (row_of a).name ≡ (row_of b).name → a ≡ b
 same_command a b same =

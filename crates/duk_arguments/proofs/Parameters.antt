@@ -1,131 +1,88 @@
 -- The walk over the words of a command's arguments, in the order of its row.
-use Rattle.std.proofs.Common.{Bool, List, None, Option, Some, [], ap, append-nil, append_assoc, arith, false, flat_map, fold, inl, inr, length, map, min, not, refl, subst, sym, true, ℕ, ◌&&◌, ◌++◌, ◌+◌, ◌||◌, ◌∙◌, ◌∷◌, ◌≡◌, ◌≤◌}
-use Rattle.std.specs.List.{AllByRecursion, list_any}
-use Rattle.std.specs.Prelude.{⊤}
-use Rattle.std.specs.Str.{bytes_eq}
+use Rattle.std.proofs.Common.{Bool, List, None, Option, Some, [], ap, arith, bytes_eq, codes, false, flat_map, fold, if◌then◌else◌, inl, inr, length, min, nat_lt, refl, subst, sym, true, ℕ, ◌+◌, ◌==◌, ◌∙◌, ◌∷◌, ◌≡◌, ◌≤◌}
+use Rattle.std.specs.List.{AllByRecursion}
+use Rattle.clap.specs.declared.builder.value_parser.ValueParser.TheVariants as parser
 use Rattle.clap.specs.Lexer.{long_of, usize_max}
-use Rattle.clap.specs.Simple.{Shape}
-use Rattle.clap.specs.Walk.{Row, Rule, Text, Walk, arg_by_id, arg_by_index, arg_by_long, has_row, walked}
-use Rattle.duk_arguments.specs.CommandLine.{Kind, Parameter, flag, named, needed, optional, several, valued}
+use Rattle.clap.specs.Simple.{Shape, filled, with_index}
+use Rattle.clap.specs.Walk.{Row, Rule, Text, Walk, arg_by_id, arg_by_index, arg_by_long, walked}
+use Rattle.duk_arguments.specs.CommandLine.{Kind, Parameter, flag, named, needed, optional, rule_by, several, valued}
 use Rattle.duk_arguments.specs.Written.{AreAsMany, IsPlainArgument, option_named, words_by}
-use Rattle.duk_arguments.proofs.Rows.{has_row-append, is_bare, row_with}
-use Rattle.duk_arguments.proofs.Several.{reads_several}
-use Rattle.duk_arguments.proofs.Steps.{Reads, Stands, built_rule, reads_flag, reads_more, reads_nothing, reads_option, reads_single}
+use Rattle.duk_arguments.proofs.Rows.{row_with, used_at}
+use Rattle.duk_arguments.proofs.Steps.{IsNamed, IsPlace, Known, Reads, Stands, leaves_values, reads_flag, reads_more, reads_nothing, reads_option, reads_several, reads_single}
 use Rattle.duk_arguments.proofs.Words.{IsOption}
-use Rattle.std.proofs.lemmas.Bool.{and_parts, or_from, or_parts}
+use Rattle.std.proofs.lemmas.Grind.{common_steps}
+use Rattle.std.proofs.lemmas.Bool.{cases_Bool}
+use Rattle.std.proofs.lemmas.Slice.Eq.{bytes_eq-Decides}
+use Rattle.clap.specs.Kinds.{range_kinds, values_kinds}
 
--- what the rules of a command have of an argument: by its name, by its place and by `--name`; whether
--- none of its name has a default; and what `--name` is
+-- an argument as it is built
+abbrev pub built_rule : ℕ → Kind → Text → Rule
+built_rule index kind name = with_index index (filled (rule_by kind name))
+
+-- what is left under a name by these texts
+abbrev pub row_left : Text → List Text → Option Row
+row_left name [] = None
+row_left name (text ∷ more) = Some (row_with name (text ∷ more))
+
+abbrev pub learning : Known → Text → List Text → Known
+learning known name texts other = if bytes_eq name other then row_left name texts else known other
+
+-- what the rules of a command have of an argument: by its name, by its place and by `--name`; what
+-- `--name` is; and what is known under the name before
 pub record Met : Type 0 where
   pub by_name : Option Rule
   pub by_place : Option Rule
   pub by_option : Option Rule
-  pub is_bare : Bool
   pub word : Option (Text × Option Text)
   pub is_end : Bool
+  pub before : Option Row
 
-abbrev met_place : List Rule → ℕ → Text → Met
-met_place rules index name = record {
+abbrev met_by : List Rule → ℕ → Known → Text → Met
+met_by rules index known name = record {
   by_name = arg_by_id rules name;
   by_place = arg_by_index rules index;
-  by_option = None;
-  is_bare = is_bare name rules;
-  word = None;
-  is_end = false;
-}
-
-abbrev met_option : List Rule → Text → Met
-met_option rules name = record {
-  by_name = arg_by_id rules name;
-  by_place = None;
   by_option = arg_by_long rules name;
-  is_bare = is_bare name rules;
   word = long_of (option_named name);
   is_end = bytes_eq (option_named name) (45 ∷ 45 ∷ []);
+  before = known name;
 }
 
-abbrev pub met_by : List Rule → ℕ → Kind → Text → Met
-met_by rules index needed name = met_place rules index name
-met_by rules index optional name = met_place rules index name
-met_by rules index several name = met_place rules index name
-met_by rules index valued name = met_option rules name
-met_by rules index named name = met_option rules name
-met_by rules index flag name = record (met_option rules name) { is_bare = true }
+-- the same, where that is met which is wanted
+abbrev at_place : Met → Rule → Met
+at_place met rule = record met { by_name = Some rule; by_place = Some rule; before = None }
 
--- what they are to have
-abbrev own_place : Rule → Met
-own_place rule = record {
+abbrev as_option : Met → Rule → Met
+as_option met rule = record met {
   by_name = Some rule;
-  by_place = Some rule;
-  by_option = None;
-  is_bare = true;
-  word = None;
-  is_end = false;
-}
-
-abbrev own_option : Rule → Text → Met
-own_option rule name = record {
-  by_name = Some rule;
-  by_place = None;
   by_option = Some rule;
-  is_bare = true;
-  word = Some (name, None);
+  word = Some (rule.id, None);
   is_end = false;
+  before = None;
 }
 
-abbrev pub own_by : ℕ → Kind → Text → Met
-own_by index needed name = own_place (built_rule index needed name)
-own_by index optional name = own_place (built_rule index optional name)
-own_by index several name = own_place (built_rule index several name)
-own_by index valued name = own_option (built_rule index valued name) name
-own_by index named name = own_option (built_rule index named name) name
-own_by index flag name = own_option (built_rule index flag name) name
+abbrev wanted : Bool → ℕ → Kind → Text → Met → Met
+wanted given index needed name met = at_place met (built_rule index needed name)
+wanted true index optional name met = at_place met (built_rule index optional name)
+wanted false index optional name met = record met { before = None }
+wanted given index several name met = at_place met (built_rule index several name)
+wanted given index valued name met = as_option met (built_rule index valued name)
+wanted given index named name met = as_option met (built_rule index named name)
+wanted given index flag name met = as_option met (built_rule index flag name)
 
--- the place of the next argument that is no option
-abbrev pub index_past : Kind → ℕ → ℕ
-index_past needed index = min (index + 1) usize_max
-index_past optional index = min (index + 1) usize_max
-index_past several index = min (index + 1) usize_max
-index_past _ index = index
+-- where the next text stands that is no option's
+abbrev index_past : Bool → Kind → ℕ → ℕ
+index_past given needed index = min (index + 1) usize_max
+index_past true optional index = min (index + 1) usize_max
+index_past given _ index = index
 
--- the same of the arguments of a row, from this place on
-abbrev pub all_met : List Rule → ℕ → List Parameter → List Met
-all_met rules index [] = []
-all_met rules index (p ∷ rest) =
-    met_by rules index p.kind p.name ∷ all_met rules (index_past p.kind index) rest
+-- as many texts as are written of an argument, where those that may be left out are all given or none is
+abbrev pub AreGiven : Bool → Kind → List Text → Type 0
+AreGiven given optional texts = length texts ≡ (if given then 1 else 0)
+AreGiven given kind texts = AreAsMany kind texts
 
-abbrev pub all_own : ℕ → List Parameter → List Met
-all_own index [] = []
-all_own index (p ∷ rest) =
-    own_by index p.kind p.name ∷ all_own (index_past p.kind index) rest
-
--- the row that an argument with these texts leaves, if it leaves one
-abbrev pub rows_with : Text → List Text → List Row
-rows_with name [] = []
-rows_with name (text ∷ more) = row_with name (text ∷ more) ∷ []
-
--- a text that is no option's stands at its place
-abbrev pub IsPlaced : Kind → List Text → ℕ → ℕ → Type 0
-IsPlaced kind [] position index = ⊤
-IsPlaced needed (text ∷ more) position index = position ≡ index
-IsPlaced optional (text ∷ more) position index = position ≡ index
-IsPlaced several (text ∷ more) position index = position ≡ index
-IsPlaced _ (text ∷ more) position index = ⊤
-
-abbrev pub place_after : Kind → List Text → ℕ → ℕ
-place_after needed (text ∷ more) position = min (position + 1) usize_max
-place_after optional (text ∷ more) position = min (position + 1) usize_max
-place_after _ texts position = position
-
--- each text that is no option's stands at its place
-abbrev pub ArePlaced : ℕ → ℕ → List (Kind × List Text) → Type 0
-ArePlaced position index [] = ⊤
-ArePlaced position index (given ∷ rest) = IsPlaced given.0 given.1 position index
-    × ArePlaced (place_after given.0 given.1 position) (index_past given.0 index) rest
-
-option_is : (rules : List Rule) (name : Text) (rule : Rule) (bare : Bool)
-    → record (met_option rules name) { is_bare = bare } ≡ own_option rule name → IsOption name
-option_is rules name rule bare met = record {
+option_is : (rules : List Rule) (index : ℕ) (known : Known) (rule : Rule)
+    → met_by rules index known rule.id ≡ as_option (met_by rules index known rule.id) rule → IsOption rule.id
+option_is rules index known rule met = record {
   long = ap (λ (m : Met). m.word) met;
   not_end = ap (λ (m : Met). m.is_end) met;
 }
@@ -134,116 +91,144 @@ same_texts : (texts : List Text) (name : Text) → flat_map (words_by several na
 same_texts [] name = refl
 same_texts (text ∷ more) name = ap (λ (rest : List Text). text ∷ rest) (same_texts more name)
 
--- the words of one argument are read
-module _ (s : Shape) (w : Walk) (rows : List Row) (index : ℕ) (name : Text) (stands : Stands s w rows)
-    (fresh : has_row name rows ≡ false) where
-  abbrev IsRead : Kind → List Text → Type 0
-  IsRead kind texts = Reads s w (flat_map (words_by kind name) texts) (rows ++ rows_with name texts)
-      (place_after kind texts w.position)
+-- from 1 to 16 values are as many as are wanted, and each passes
+range_is_quiet : (n : ℕ) → 1 ≤ n → n ≤ 16 → range_kinds 1 16 n ≡ []
+range_is_quiet n least most =
+    let some : (n == 0) ≡ false = grind (arith, common_steps) in
+    let enough : nat_lt n 1 ≡ false = grind (arith, common_steps) in
+    let few : nat_lt 16 n ≡ false = grind (arith, common_steps) in
+    rw (some, enough, few) refl
 
-  reads_at : (kind : Kind) (texts : List Text) → met_by s.rules index kind name ≡ own_by index kind name
-      → AreAsMany kind texts → AllByRecursion IsPlainArgument texts → IsPlaced kind texts w.position index
-      → IsRead kind texts
-  reads_at needed [] met many plain placed = absurd (omega arith)
-  reads_at needed (text ∷ []) met many plain placed =
-      reads_single s w rows index true name text stands plain.0 fresh (ap (λ (m : Met). m.by_name) met)
-      (ap (arg_by_index s.rules) placed ∙ ap (λ (m : Met). m.by_place) met)
-  reads_at needed (text ∷ other ∷ more) met many plain placed = absurd (omega arith)
-  reads_at optional [] met many plain placed = reads_nothing s w rows stands
-  reads_at optional (text ∷ []) met many plain placed =
-      reads_single s w rows index false name text stands plain.0 fresh (ap (λ (m : Met). m.by_name) met)
-      (ap (arg_by_index s.rules) placed ∙ ap (λ (m : Met). m.by_place) met)
-  reads_at optional (text ∷ other ∷ more) met many plain placed = absurd (omega arith)
-  reads_at several [] met many plain placed = absurd (omega arith)
-  reads_at several (text ∷ more) met many plain placed =
-      subst (λ (words : List Text). Reads s w words (rows ++ row_with name (text ∷ more) ∷ []) w.position)
+all_pass : (texts : List Text) → values_kinds false parser.String texts ≡ []
+all_pass [] = refl
+all_pass (text ∷ rest) = all_pass rest
+
+module _ (s : Shape) (w : Walk) (known : Known) (stands : Stands s w known) where
+  place_at : (index : ℕ) (rule : Rule)
+      → met_by s.rules index known rule.id ≡ at_place (met_by s.rules index known rule.id) rule
+      → w.position ≡ index → rule.trailing_var_arg ≡ false → IsPlace s w known rule
+  place_at index rule met at ends = record {
+    stands = stands;
+    fresh = ap (λ (m : Met). m.before) met;
+    found = ap (λ (m : Met). m.by_name) met;
+    place = ap (arg_by_index s.rules) at ∙ ap (λ (m : Met). m.by_place) met;
+    ends = ends;
+  }
+
+  option_at : (index : ℕ) (rule : Rule)
+      → met_by s.rules index known rule.id ≡ as_option (met_by s.rules index known rule.id) rule
+      → IsNamed s w known rule
+  option_at index rule met = record {
+    stands = stands;
+    fresh = ap (λ (m : Met). m.before) met;
+    found = ap (λ (m : Met). m.by_name) met;
+    long = ap (λ (m : Met). m.by_option) met;
+    is = option_is s.rules index known rule met;
+  }
+
+  -- where nothing is written, nothing more is known
+  reads_none : (name : Text) → known name ≡ None → Reads s w [] (learning known name []) w.position
+  reads_none name fresh = reads_nothing s w (learning known name []) (record {
+    on = stands.on;
+    takes = stands.takes;
+    knows = λ other. stands.knows other ∙ sym (same other);
+    quiet = stands.quiet;
+    apart = λ other none. stands.apart other (sym (same other) ∙ none);
+  })
+    where
+      same : (other : Text) → learning known name [] other ≡ known other
+      same other = elim (cases_Bool (bytes_eq name other)) [
+        | inl equal ↦ rw equal (sym fresh ∙ ap known ((bytes_eq-Decides name other).0 equal))
+        | inr differs ↦ rw differs refl
+      ]
+
+  -- the words of one argument are read
+  reads_at : (given : Bool) (kind : Kind) (name : Text) (texts : List Text)
+      → met_by s.rules w.position known name
+      ≡ wanted given w.position kind name (met_by s.rules w.position known name)
+      → AreGiven given kind texts → AllByRecursion IsPlainArgument texts
+      → Reads s w (flat_map (words_by kind name) texts) (learning known name texts)
+      (index_past given kind w.position)
+  reads_at given needed name [] met many plain = absurd (omega arith)
+  reads_at given needed name (text ∷ []) met many plain =
+      let a = built_rule w.position needed name in
+      reads_single s w known a (place_at w.position a met refl refl) text plain.0 (leaves_values a text [] refl refl refl refl)
+  reads_at given needed name (text ∷ other ∷ more) met many plain = absurd (omega arith)
+  reads_at true optional name [] met many plain = absurd (omega arith)
+  reads_at true optional name (text ∷ []) met many plain =
+      let a = built_rule w.position optional name in
+      reads_single s w known a (place_at w.position a met refl refl) text plain.0 (leaves_values a text [] refl refl refl refl)
+  reads_at true optional name (text ∷ other ∷ more) met many plain = absurd (omega arith)
+  reads_at false optional name [] met many plain = reads_none name (ap (λ (m : Met). m.before) met)
+  reads_at false optional name (text ∷ more) met many plain = absurd (omega arith)
+  reads_at given several name [] met many plain = absurd (omega arith)
+  reads_at given several name (text ∷ more) met many plain =
+      let a = built_rule w.position several name in
+      subst (λ (words : List Text). Reads s w words (learning known name (text ∷ more)) w.position)
       (sym (same_texts (text ∷ more) name))
-      (reads_several s w rows index name text more stands plain fresh many.1 (ap (λ (m : Met). m.by_name) met)
-      (ap (arg_by_index s.rules) placed ∙ ap (λ (m : Met). m.by_place) met))
-  reads_at valued [] met many plain placed = reads_nothing s w rows stands
-  reads_at valued (text ∷ []) met many plain placed =
-      reads_option s w rows index false name text stands plain.0 fresh (option_is s.rules name _ _ met)
-      (ap (λ (m : Met). m.by_name) met) (ap (λ (m : Met). m.by_option) met)
-  reads_at valued (text ∷ other ∷ more) met many plain placed = absurd (omega arith)
-  reads_at named [] met many plain placed = absurd (omega arith)
-  reads_at named (text ∷ []) met many plain placed =
-      reads_option s w rows index true name text stands plain.0 fresh (option_is s.rules name _ _ met)
-      (ap (λ (m : Met). m.by_name) met) (ap (λ (m : Met). m.by_option) met)
-  reads_at named (text ∷ other ∷ more) met many plain placed = absurd (omega arith)
-  reads_at flag texts met (inl none) plain placed =
-      subst (λ (texts : List Text). IsRead flag texts) (sym none) (reads_nothing s w rows stands)
-  reads_at flag texts met (inr there) plain placed =
-      subst (λ (texts : List Text). IsRead flag texts) (sym there)
-      (reads_flag s w rows index name stands fresh (option_is s.rules name _ _ met)
-      (ap (λ (m : Met). m.by_option) met))
+      (reads_several s w known a (place_at w.position a met refl refl) refl text more plain
+      (leaves_values a text more refl refl (range_is_quiet (length (text ∷ more)) many.0 many.1) (all_pass (text ∷ more))))
+  reads_at given valued name [] met many plain = reads_none name (ap (λ (m : Met). m.before) met)
+  reads_at given valued name (text ∷ []) met many plain =
+      let a = built_rule w.position valued name in
+      reads_option s w known a (option_at w.position a met) text plain.0 refl refl (leaves_values a text [] refl refl refl refl)
+  reads_at given valued name (text ∷ other ∷ more) met many plain = absurd (omega arith)
+  reads_at given named name [] met many plain = absurd (omega arith)
+  reads_at given named name (text ∷ []) met many plain =
+      let a = built_rule w.position named name in
+      reads_option s w known a (option_at w.position a met) text plain.0 refl refl (leaves_values a text [] refl refl refl refl)
+  reads_at given named name (text ∷ other ∷ more) met many plain = absurd (omega arith)
+  reads_at given flag name texts met (inl none) plain =
+      rw none (reads_none name (ap (λ (m : Met). m.before) met))
+  reads_at given flag name texts met (inr there) plain =
+      let a = built_rule w.position flag name in
+      rw there (reads_flag s w known a (option_at w.position a met) (codes "true" ∷ []) refl (record {
+        rows = used_at name (codes "true" ∷ []);
+        quiet = λ again rows fresh. rw fresh refl;
+      }))
 
--- nothing is there yet under these names
-abbrev pub AreFresh : List Row → List Parameter → Type 0
-AreFresh rows parameters = AllByRecursion (λ p. has_row p.name rows ≡ false) parameters
+-- arguments before the rest, of which the last stands first
+abbrev pub after : List Parameter → List Parameter → List Parameter
+after before [] = before
+after before (p ∷ rest) = after (p ∷ before) rest
 
--- no two have one name
-abbrev pub are_apart : List Parameter → Bool
-are_apart [] = true
-are_apart (p ∷ rest) = not (list_any (λ other. bytes_eq p.name other.name) rest) && are_apart rest
+-- what is known after some arguments with these texts
+abbrev pub known_of : (Text → List Text) → List Parameter → Known
+known_of texts [] = λ name. None
+known_of texts (p ∷ before) = learning (known_of texts before) p.name (texts p.name)
 
-pub not_true : (b : Bool) → not b ≡ true → b ≡ false
-not_true true bad = cc
-not_true false is = refl
+module _ (texts : Text → List Text) (given : Bool) where
+  -- what the rules have of each argument, and what is wanted
+  abbrev pub all_met : List Rule → ℕ → List Parameter → List Parameter → List Met
+  all_met rules index before [] = []
+  all_met rules index before (p ∷ rest) = met_by rules index (known_of texts before) p.name
+      ∷ all_met rules (index_past given p.kind index) (p ∷ before) rest
 
--- these parameters have other names than this
-pub others_fresh : (name : Text) (texts : List Text) (rows : List Row) (parameters : List Parameter)
-    → list_any (λ (other : Parameter). bytes_eq name other.name) parameters ≡ false → AreFresh rows parameters
-    → AreFresh (rows ++ rows_with name texts) parameters
-others_fresh name texts rows [] apart fresh = tt
-others_fresh name texts rows (p ∷ rest) apart fresh =
-    let parts = or_parts (bytes_eq name p.name) _ apart in
-    (fresh_past name texts rows p.name parts.0 fresh.0, others_fresh name texts rows rest parts.1 fresh.1)
-  where
-    fresh_past : (name : Text) (texts : List Text) (rows : List Row) (other : Text) → bytes_eq name other ≡ false
-        → has_row other rows ≡ false → has_row other (rows ++ rows_with name texts) ≡ false
-    fresh_past name [] rows other differs absent = ap (has_row other) (append-nil rows) ∙ absent
-    fresh_past name (text ∷ more) rows other differs absent =
-        has_row-append other rows (row_with name (text ∷ more) ∷ [])
-        ∙ or_from (has_row other rows) (bytes_eq name other || false) absent
-        (or_from (bytes_eq name other) false differs refl)
+  abbrev pub all_wanted : List Rule → ℕ → List Parameter → List Parameter → List Met
+  all_wanted rules index before [] = []
+  all_wanted rules index before (p ∷ rest) =
+      wanted given index p.kind p.name (met_by rules index (known_of texts before) p.name)
+      ∷ all_wanted rules (index_past given p.kind index) (p ∷ before) rest
 
--- what is written of each, by the name
-module _ (texts : Text → List Text) where
-  -- the words of these arguments, and the rows that they leave
   abbrev pub words_of_all : List Parameter → List Text
   words_of_all = flat_map (λ p. flat_map (words_by p.kind p.name) (texts p.name))
 
-  abbrev pub rows_of_all : List Parameter → List Row
-  rows_of_all = flat_map (λ p. rows_with p.name (texts p.name))
-
-  -- each is written as it may be
-  abbrev pub AreWritten : List Parameter → Type 0
-  AreWritten = AllByRecursion (λ p. AreAsMany p.kind (texts p.name) × AllByRecursion IsPlainArgument (texts p.name))
-
   -- the words of all arguments are read
-  pub reads_all : (s : Shape) (w : Walk) (rows : List Row) (position index : ℕ) (parameters : List Parameter)
-      → Stands s w rows → w.position ≡ position → AreFresh rows parameters → are_apart parameters ≡ true
-      → all_met s.rules index parameters ≡ all_own index parameters → AreWritten parameters
-      → ArePlaced position index (map (λ p. (p.kind, texts p.name)) parameters)
-      → (last : ℕ) × Reads s w (words_of_all parameters) (rows ++ rows_of_all parameters) last
-  reads_all s w rows position index [] stands at fresh apart met written placed =
-      (w.position, reads_nothing s w rows stands)
-  reads_all s w rows position index (p ∷ rest) stands at fresh apart met written placed =
-      let parts = and_parts (not (list_any (λ (other : Parameter). bytes_eq p.name other.name) rest)) (are_apart rest) apart in
-      let next = index_past p.kind index in
-      let here : met_by s.rules index p.kind p.name ≡ own_by index p.kind p.name = cc in
-      let after : all_met s.rules next rest ≡ all_own next rest = cc in
-      let read = reads_at s w rows index p.name stands fresh.0 p.kind (texts p.name) here written.0.0 written.0.1
-      (subst (λ (k : ℕ). IsPlaced p.kind (texts p.name) k index) (sym at) placed.0) in
+  pub reads_all : (s : Shape) (w : Walk) (before rest : List Parameter) → Stands s w (known_of texts before)
+      → all_met s.rules w.position before rest ≡ all_wanted s.rules w.position before rest
+      → AllByRecursion (λ p. AreGiven given p.kind (texts p.name)) rest
+      → AllByRecursion (λ p. AllByRecursion IsPlainArgument (texts p.name)) rest
+      → (last : ℕ) × Reads s w (words_of_all rest) (known_of texts (after before rest)) last
+  reads_all s w before [] stands met many plain = (w.position, reads_nothing s w (known_of texts before) stands)
+  reads_all s w before (p ∷ rest) stands met many plain =
       let words = flat_map (words_by p.kind p.name) (texts p.name) in
-      let more = reads_all s (fold (walked s.rules []) w words) (rows ++ rows_with p.name (texts p.name))
-      (place_after p.kind (texts p.name) position) next rest read.stands
-      (read.place ∙ ap (place_after p.kind (texts p.name)) at)
-      (others_fresh p.name (texts p.name) rows rest (not_true _ parts.0) fresh.1)
-      parts.1 after written.1 placed.1 in (
-        more.0,
-        subst (λ (all : List Row). Reads s w (words ++ words_of_all rest) all more.0)
-            (append_assoc rows (rows_with p.name (texts p.name)) (rows_of_all rest))
-            (reads_more s w words (words_of_all rest) (rows ++ rows_with p.name (texts p.name))
-            ((rows ++ rows_with p.name (texts p.name)) ++ rows_of_all rest) _ more.0 read more.1),
-      )
+      let index = index_past given p.kind w.position in
+      let v = fold (walked s.rules []) w words in
+      let here : met_by s.rules w.position (known_of texts before) p.name
+      ≡ wanted given w.position p.kind p.name (met_by s.rules w.position (known_of texts before) p.name) = cc in
+      let later : all_met s.rules index (p ∷ before) rest ≡ all_wanted s.rules index (p ∷ before) rest = cc in
+      let read = reads_at s w (known_of texts before) stands given p.kind p.name (texts p.name) here many.0 plain.0 in
+      let more = reads_all s v (p ∷ before) rest read.stands
+      (subst (λ (k : ℕ). all_met s.rules k (p ∷ before) rest ≡ all_wanted s.rules k (p ∷ before) rest)
+      (sym read.place) later) many.1 plain.1 in
+      (more.0, reads_more s w words (words_of_all rest) _ (known_of texts (after (p ∷ before) rest)) index more.0 read more.1)

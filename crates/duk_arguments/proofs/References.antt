@@ -1,5 +1,5 @@
 -- What stays of a request where its references have other texts.
-use Rattle.std.proofs.Common.{◌≡◌, ◌∷◌, ◌∙◌, [], Bool, List, ap, bytes_eq, false, filter, if◌then◌else◌, inl, inr, is_some, map, refl, slice_get, sym}
+use Rattle.std.proofs.Common.{◌≡◌, ◌∷◌, ◌∙◌, [], Bool, List, ap, bytes_eq, false, filter, inl, inr, is_some, map, refl, slice_get, sym}
 use Rattle.std.proofs.lemmas.Bool.{cases_Bool}
 use Rattle.std.proofs.lemmas.Slice.Eq.{bytes_eq-Decides}
 use Rattle.clap.specs.Words.{Text}

@@ -1,7 +1,7 @@
 //! What stands after a command, as `clap` has it.
 
 ghost use Rattle.std.specs.Prelude.{◌≡◌, IfOk};
-ghost use Rattle.duk_arguments.specs.CommandLine.{flag, named, needed, optional, rule_by, rule_of_parameter, several, shape_of_row, valued};
+ghost use Rattle.duk_arguments.specs.CommandLine.{rule_by, rule_of_parameter, shape_of_row, valued};
 ghost use Rattle.duk_arguments.specs.inner.CommandLine.{IsArgument, IsCommand, parameter_of, row_of_usage};
 
 use clap::{Arg, ArgAction, Command};
@@ -94,63 +94,28 @@ fn clap_argument<'a>(alloc: Global, argument: Argument<'a>) -> Arg<'a>
     ensures { IsArgument (rule_of_parameter (parameter_of argument.entry)) result }
 {
     match argument {
-        Argument::Needed(_, name, help) => needed(alloc, name, help),
-        Argument::Optional(_, name, help) => optional(alloc, name, help),
-        Argument::Several(_, name, help) => several(alloc, name, help),
-        Argument::Valued(_, name, value, help) => valued(alloc, name, value, help),
-        Argument::Named(_, name, value, help) => named(alloc, name, value, help),
-        Argument::Flag(name, help) => flag(alloc, name, help),
+        Argument::Needed(_, name, help) => Arg::new(alloc, name).required(true).help(help),
+        Argument::Optional(_, name, help) => Arg::new(alloc, name).help(help),
+        Argument::Several(_, name, help) => Arg::new(alloc, name)
+            .num_args(1..=16)
+            .required(true)
+            .help(help),
+        Argument::Valued(_, name, value, help) => option(alloc, name, value, help),
+        Argument::Named(_, name, value, help) => option(alloc, name, value, help).required(true),
+        Argument::Flag(name, help) => Arg::new(alloc, name)
+            .long(name)
+            .action(ArgAction::SetTrue)
+            .help(help),
     }
 }
 
-/// An argument that has to be there.
-fn needed<'a>(alloc: Global, name: &'a str, help: &'a str) -> Arg<'a>
-    ensures { IsArgument (rule_by needed name.entry.now) result }
-{
-    Arg::new(alloc, name).required(true).help(help)
-}
-
-/// An argument that may be left out.
-fn optional<'a>(alloc: Global, name: &'a str, help: &'a str) -> Arg<'a>
-    ensures { IsArgument (rule_by optional name.entry.now) result }
-{
-    Arg::new(alloc, name).help(help)
-}
-
-/// An argument that has to be there, from once to 16 times.
-fn several<'a>(alloc: Global, name: &'a str, help: &'a str) -> Arg<'a>
-    ensures { IsArgument (rule_by several name.entry.now) result }
-{
-    Arg::new(alloc, name)
-        .num_args(1..=16)
-        .required(true)
-        .help(help)
-}
-
 /// An option that has a value.
-fn valued<'a>(alloc: Global, name: &'a str, value: &'a str, help: &'a str) -> Arg<'a>
+fn option<'a>(alloc: Global, name: &'a str, value: &'a str, help: &'a str) -> Arg<'a>
     ensures { IsArgument (rule_by valued name.entry.now) result }
 {
     Arg::new(alloc, name)
         .long(name)
         .value_name(value)
-        .help(help)
-}
-
-/// An option that has to be there, and has a value.
-fn named<'a>(alloc: Global, name: &'a str, value: &'a str, help: &'a str) -> Arg<'a>
-    ensures { IsArgument (rule_by named name.entry.now) result }
-{
-    valued(alloc, name, value, help).required(true)
-}
-
-/// An option that is there or not.
-fn flag<'a>(alloc: Global, name: &'a str, help: &'a str) -> Arg<'a>
-    ensures { IsArgument (rule_by flag name.entry.now) result }
-{
-    Arg::new(alloc, name)
-        .long(name)
-        .action(ArgAction::SetTrue)
         .help(help)
 }
 

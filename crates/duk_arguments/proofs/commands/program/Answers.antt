@@ -1,7 +1,6 @@
 use Rattle.std.proofs.Common.{◌≡◌, ◌∷◌, ◌∙◌, ◌+◌, ◌<◌, [], ℕ, List, ap, ap₂, arith, fold, get_or, length, map, sym, take}
-use Rattle.std.proofs.lemmas.List.{length-map, map-append, take_more}
+use Rattle.std.proofs.lemmas.List.{map-append, take_more}
 use Rattle.std.proofs.lemmas.Grind.{fold-append}
-use Rattle.std.proofs.Math.Seq.{take-length}
 use Rattle.clap.specs.Words.{App, Shape, with_subcommand}
 use Rattle.duk_arguments.specs.CommandLine.{all_commands, command_line, program_shape, row_of, shape_of_row}
 use Rattle.duk_arguments.specs.declared.commands.name.CommandName.{CommandName}

@@ -3,11 +3,9 @@ use Rattle.std.proofs.lemmas.Result.{IfErr-weaker, IfOk-weaker}
 use Rattle.clap.specs.Kinds.{HasKind}
 use Rattle.clap.specs.Values.{kind_of}
 use Rattle.clap.specs.Words.{App, Row, Text, fault_of, is_simple_and_free, subcommand_of, subcommand_rows_of}
-use Rattle.duk_arguments.specs.Asked.{Asks, AsksAfter, IsNoRequestOf, texts_of}
+use Rattle.duk_arguments.specs.Asked.{AsksAfter, IsNoRequestOf, texts_of}
 use Rattle.duk_arguments.specs.CommandLine.{command_line}
 use Rattle.duk_arguments.specs.inner.Asked.{IsNoRequestAfter}
-use Rattle.duk_arguments.specs.Request.{Written}
-use Rattle.duk_arguments.specs.declared.request.NoRequest.{NoRequest}
 use Rattle.duk_arguments.proofs.Failures.{command_found, is_instead, is_no_request, is_reported_of}
 use Rattle.duk_arguments.proofs.reading.match_by.Goals as goal
 

@@ -1,14 +1,11 @@
-use Rattle.std.proofs.Common.{IfNone, List, None, Option, Some, ap, bytes_eq, find, option_map, subst, sym, ◌∙◌, ◌≡◌}
+use Rattle.std.proofs.Common.{List, Option, Some, ap, option_map, sym, ◌∙◌, ◌≡◌}
 use Rattle.std.specs.Borrow.{Bor}
 use Rattle.std.specs.Box.{box_value}
-use Rattle.clap.specs.Simple.{subcommand_rows}
 use Rattle.clap.specs.Words.{Row, Text, found_of, rows_of, subcommand_name_of, subcommand_rows_of}
 use Rattle.clap.specs.declared.parser.matches.ArgMatches.{ArgMatches}
 use Rattle.clap.specs.declared.parser.matches.ArgMatches.TheViews.{out-ArgMatches, out-SubCommand}
 use Rattle.duk_arguments.specs.Asked.{AsksAfter}
-use Rattle.duk_arguments.specs.CommandLine.{all_commands, row_of}
 use Rattle.duk_arguments.specs.Request.{Written}
-use Rattle.duk_arguments.specs.declared.commands.name.CommandName.{CommandName}
 use Rattle.duk_arguments.proofs.Failures.{both_of, unnamed}
 use Rattle.duk_arguments.proofs.Named.{name_found}
 use Rattle.duk_arguments.proofs.reading.used_command.Goals as goal
