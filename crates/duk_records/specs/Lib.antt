@@ -1,0 +1,4 @@
+pub mod Records
+pub mod Visits
+pub mod DiskRecords
+pub mod inner

@@ -1,0 +1,5 @@
+pub mod DiskRecords
+pub mod Format
+pub mod Groups
+pub mod GroupSteps
+pub mod Reading
