@@ -2,6 +2,7 @@ mod Addresses
 mod EntriesRead
 mod GroupWritten
 mod KeptEntries
+mod MemoryMeaning
 mod RecordsOnDisk
 mod RecordsRead
 mod StepsInTurn

@@ -1,4 +1,5 @@
 pub mod Records
 pub mod Visits
 pub mod DiskRecords
+pub mod MemoryRecords
 pub mod inner
