@@ -1,9 +1,10 @@
 -- The entries that are read of a piece, and that they are those that are kept.
-use Rattle.std.proofs.Common.{◌≡◌, ◌≢◌, inl, inr, ℕ, zero, suc, ◌+◌, ◌-◌, ◌*◌, ◌<◌, ◌≤◌, List, [], ◌∷◌, Some, length, get_or, take, drop, refl, sym, ◌∙◌, subst, arith, length-drop}
+use Rattle.std.proofs.Common.{◌≡◌, ◌≢◌, inl, inr, ℕ, ◌+◌, ◌-◌, ◌*◌, ◌<◌, ◌≤◌, List, Some, length, get_or, take, drop, refl, sym, ◌∙◌, subst, arith, length-drop}
 use Rattle.std.proofs.Math.Nat.{mul-add}
 use Rattle.std.proofs.lemmas.Bool.{cases_lt}
 use Rattle.std.proofs.lemmas.List.{get_or-drop, get_or-set_other, get_or-set_same, get_or-take, length-take, length-take-le, same_lists}
 use Rattle.std.proofs.Math.ListN.{set}
+use Rattle.std.proofs.lemmas.Option.{get_or_from_slice_get, slice_get_within}
 use Rattle.std.specs.List.{slice_get}
 use Rattle.duk_store.specs.Disk.{range_of}
 use Rattle.duk_store.specs.StoreState.{StoreState}
@@ -11,7 +12,6 @@ use Rattle.duk_records.specs.DiskRecords.{HaveStanding}
 use Rattle.duk_records.specs.Records.{HasEntry, KeepsEntries, RecordFormat, SaysOne, after_gate, record_at}
 use Rattle.duk_records.specs.inner.Reading.{HaveEntries, LacksEntry, StandsAt}
 use Rattle.duk_records.proofs.Addresses.{ends_before, record_in_piece}
-use Rattle.duk_records.proofs.GroupWritten.{entry_got}
 use Rattle.duk_records.proofs.KeptEntries.{kept_at}
 
 -- one more entry is read
@@ -50,12 +50,6 @@ module _ {E : Type 0} (format : RecordFormat E) (kept : List E) (bytes : List �
       let first : 0 + (place + index) ≡ place + index = omega arith in
       (at.0, at.1, at.2, subst (HasEntry format at.1 at.0) (there index less) (subst (λ (n : ℕ). HasEntry format at.1 at.0 (record_at format.width n bytes)) first at.3))
 
--- a place of a list that has an entry
-got_inside : {E : Type 0} (kept : List E) (index : ℕ) (entry : E) → slice_get kept index ≡ Some entry → index < length kept
-got_inside [] index entry is = cc
-got_inside (p ∷ kept) zero entry is = omega arith
-got_inside (p ∷ kept) (suc index) entry is = omega (arith, got_inside kept index entry is)
-
 -- records that have what stands in the list
 module _ {E : Type 0} (format : RecordFormat E) (store : StoreState (List E)) (place count : ℕ) (bytes : List ℕ) (standing : HaveStanding format store place count bytes) (kept : List E) (finds : store.found kept) where
   pub none_lacks : ¬ LacksEntry format count bytes
@@ -65,7 +59,7 @@ module _ {E : Type 0} (format : RecordFormat E) (store : StoreState (List E)) (p
   inside_list some =
       let last : count - 1 < count = omega (arith, some) in
       let at = standing kept finds (count - 1) last in
-      omega (arith, some, got_inside kept (place + (count - 1)) at.0 at.2)
+      omega (arith, some, slice_get_within kept (place + (count - 1)) at.0 at.2)
 
   pub are_kept : SaysOne format → (entries : List E) → length entries ≡ count → HaveEntries format count entries bytes → take (length entries) (drop place kept) ≡ entries
   are_kept says entries size have =
@@ -80,5 +74,5 @@ module _ {E : Type 0} (format : RecordFormat E) (store : StoreState (List E)) (p
       let below : k < count = omega (arith, short, size) in
       let at = standing kept finds k below in
       let read = have k d below in
-      get_or-take (length entries) (drop place kept) k d short ∙ get_or-drop place kept k d ∙ entry_got kept (place + k) at.0 d at.2
+      get_or-take (length entries) (drop place kept) k d short ∙ get_or-drop place kept k d ∙ get_or_from_slice_get kept (place + k) at.0 d at.2
       ∙ (says (after_gate (record_at format.width k bytes)) at.1 read.0 at.0 (get_or entries k d) at.3 read.1).1)

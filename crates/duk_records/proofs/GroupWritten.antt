@@ -1,7 +1,7 @@
 -- What is written of a group, one record after the other.
-use Rattle.std.proofs.Common.{◌≡◌, ◌≢◌, ◌⊎◌, inl, inr, ℕ, zero, suc, ◌+◌, ◌-◌, ◌*◌, ◌<◌, ◌≤◌, List, [], ◌∷◌, Some, length, get_or, refl, sym, ◌∙◌, ap, subst, arith}
+use Rattle.std.proofs.Common.{◌≡◌, ◌≢◌, ◌⊎◌, inl, inr, ℕ, zero, suc, ◌+◌, ◌-◌, ◌*◌, ◌<◌, ◌≤◌, List, [], ◌∷◌, length, get_or, refl, sym, ◌∙◌, ap, subst, arith}
 use Rattle.std.proofs.lemmas.Bool.{cases_eq, cases_lt}
-use Rattle.std.specs.List.{slice_get}
+use Rattle.std.proofs.lemmas.Option.{get_or_from_slice_get}
 use Rattle.duk_store.specs.Disk.{DiffersWithin, DiskState, LeavesChanged, written}
 use Rattle.duk_records.specs.Records.{HasEntry, IsOpen, RecordFormat, after_gate, gate_of, record_at}
 use Rattle.duk_records.specs.inner.Groups.{AreWritten, followers_at}
@@ -15,12 +15,6 @@ followers_of_first (suc index) count is = absurd (omega (arith, is))
 pub followers_of_other : (index count : ℕ) → index ≢ 0 → followers_at index count ≡ 0
 followers_of_other zero count other = absurd (other refl)
 followers_of_other (suc index) count other = refl
-
--- the entry at a place
-pub entry_got : {E : Type 0} (group : List E) (index : ℕ) (entry other : E) → slice_get group index ≡ Some entry → get_or group index other ≡ entry
-entry_got [] index entry other is = cc
-entry_got (p ∷ group) zero entry other is = cc
-entry_got (p ∷ group) (suc index) entry other is = entry_got group index entry other is
 
 module _ {E : Type 0} (format : RecordFormat E) (wide : 1 ≤ format.width) (group : List E) (place : ℕ) where
   -- one more record is written
@@ -45,7 +39,7 @@ module _ {E : Type 0} (format : RecordFormat E) (wide : 1 ≤ format.width) (gro
             | inl before ↦ rw (other_record format.width wide (place + index) y z torn (place + k) (omega (arith, before))) (so_far.contents k p before is)
             | inr past ↦
                 let same : index ≡ k = omega (arith, below, past) in
-                let p_is : entry ≡ p = entry_is ∙ ap (λ (i : ℕ). get_or group i entry) same ∙ entry_got group k p entry is in
+                let p_is : entry ≡ p = entry_is ∙ ap (λ (i : ℕ). get_or group i entry) same ∙ get_or_from_slice_get group k p entry is in
                 subst (λ (q : E). HasEntry format (followers_at k (length group)) q (record_at format.width (place + k) z)) p_is
                 (subst (λ (i : ℕ). HasEntry format (followers_at i (length group)) entry (record_at format.width (place + i) z)) same has)
           ];

@@ -126,11 +126,11 @@ impl<D: Disk, F: Format> DiskRecords<D, F> {
         }
     }
 
-    /// Reads the records of so many entries from a place of the list on, counted from 0, into all of
-    /// `piece`. It judges none of them.
+    /// Reads the records of so many entries from a place of the list on, counted from 0, into all
+    /// of `piece`. It judges none of them.
     ///
-    /// Refused with `Stopped` where the records are stopped, and with `Device` where the device step
-    /// failed, which stops them.
+    /// Refused with `Stopped` where the records are stopped, and with `Device` where the device
+    /// step failed, which stops them.
     pub fn read_bytes(
         &mut self,
         place: u64,
