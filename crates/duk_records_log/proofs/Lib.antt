@@ -1,0 +1,3 @@
+mod LogInMemory
+mod LogStates
+mod NumbersKept
