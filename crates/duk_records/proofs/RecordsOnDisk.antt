@@ -1,8 +1,11 @@
 -- The meaning of records on a disk, from what their disk may leave.
-use Rattle.std.proofs.Common.{◌≡◌, ◌≢◌, ◌⊎◌, ◌↔◌, inl, inr, ℕ, ◌+◌, ◌*◌, ◌<◌, ◌≤◌, List, [], ◌++◌, Option, Some, None, length, replicate, true, refl, sym, ◌∙◌, ap, subst, arith, length-append, append-nil}
+use Rattle.std.proofs.Common.{◌≡◌, ◌≢◌, ◌⊎◌, ◌↔◌, inl, inr, ℕ, ◌+◌, ◌*◌, ◌<◌, ◌≤◌, List, [], ◌++◌, Option, Some, None, length, replicate, get_or, false, true, refl, sym, ◌∙◌, ap, subst, arith, length-append, append-nil}
 use Rattle.std.proofs.lemmas.Bool.{cases_eq, false≢true}
+use Rattle.std.proofs.lemmas.Grind.{same_number_lists}
+use Rattle.std.proofs.lemmas.List.{get_or-replicate, length-replicate}
 use Rattle.std.specs.List.{slice_get}
 use Rattle.duk_store.specs.Disk.{DiskMeaning, DiskState, HasFailed, LeavesItsSize, LeavesReads, LeavesWithin, PreservesBytes, PreservesDisk, ReadsMayStay, range_of}
+use Rattle.duk_store.specs.MemoryDisk.{CouldLeave, memory_disk_state, new_disk}
 use Rattle.duk_store.specs.Restart.{RestartFailed}
 use Rattle.duk_store.specs.StoreState.{FindsAsBefore, FindsSome, IsNew, KeepsNothing, PreservesNature, Stays}
 use Rattle.duk_store.specs.declared.fault.StoreFault.{StoreFault}
@@ -363,3 +366,27 @@ module _ {E : Type 0} (format : RecordFormat E) where
         failed.failure,
         failed.not_calm,
       )
+
+-- a new disk in memory, of a size of whole records, is blank
+pub new_disk_is_blank : (width size : ℕ) → IsRecordsSize width size → IsBlankDisk width (memory_disk_state (new_disk size))
+new_disk_is_blank width size whole =
+    let zeros : List ℕ = replicate size 0 in
+    let size_is : length zeros ≡ size = length-replicate size 0 in
+    record {
+      honest = record {
+        synced_length = refl;
+        wanted_length = refl;
+        unsynced_length = length-replicate size false ∙ sym size_is;
+        reads_synced = λ place none. refl;
+        wanted_synced = λ place none. refl;
+      };
+      calm = record { not_armed = refl; no_single_failure = refl };
+      zero = record {
+        size = (whole.0, whole.1, size_is ∙ whole.2);
+        zeros = λ bytes. subst (λ (n : ℕ). CouldLeave (new_disk size) bytes ↔ (bytes ≡ replicate n 0)) (sym size_is) (
+          (λ could. same_number_lists bytes zeros could.same_length
+              (λ place less. could.as_synced place (get_or-replicate size place false false (omega (arith, less, could.same_length, size_is))))),
+          (λ is. record { same_length = ap length is; as_synced = λ place none. ap (λ (l : List ℕ). get_or l place 0) is }),
+        );
+      };
+    }

@@ -6,7 +6,3 @@ abbrev pub Visits : {V E : Type 0} → (V → E → V → Type 0) → V → List
 Visits visits old [] new = new ≡ old
 Visits visits old (entry ∷ later) new =
     (next : _) × visits old entry next × Visits visits next later new
-
--- some entries
-abbrev pub VisitsSome : {V E : Type 0} → (V → E → V → Type 0) → V → V → Type 0
-VisitsSome {V} {E} visits old new = (entries : List E) × Visits visits old entries new

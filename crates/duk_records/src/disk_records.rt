@@ -71,7 +71,8 @@ impl<D: Disk, F: Format> DiskRecords<D, F> {
     }
 
     /// Brings the records up, shows each entry to a visitor, and reports how many there are. It
-    /// disarms first, reads `most` records at a time by way of `piece`, and writes nothing.
+    /// disarms first, reads each record once, as many at a time as `piece` has room for, and writes
+    /// nothing.
     ///
     /// Refused with `Device` where a device step failed, and with `Damaged` where the disk has no
     /// size of whole records, or keeps no list. The records are stopped then, and what was shown is
@@ -79,11 +80,9 @@ impl<D: Disk, F: Format> DiskRecords<D, F> {
     pub fn restart<V: Visitor<F::Entry>>(
         &mut self,
         piece: &mut [u8],
-        most: usize,
         visitor: &mut V,
     ) -> Result<u64, StoreFault>
-        requires some { 1 ≤ most }
-        requires piece { length piece.old ≡ F.meaning.width * most }
+        requires { F.meaning.width ≤ length piece.old }
         ensures found { IfOk result (AreRestarted V.visits visitor.old visitor.new
             (state_of F.meaning D.meaning self.old) (state_of F.meaning D.meaning self.new)) }
         ensures counted { IfOk result (λ found. count_in self.new.kept ≡ found) }
@@ -98,7 +97,7 @@ impl<D: Disk, F: Format> DiskRecords<D, F> {
     {
         self.format.laws();
         self.kept = None;
-        let count = bring_up(&mut self.disk, &self.format, piece, most, visitor)?;
+        let count = bring_up(&mut self.disk, &self.format, piece, visitor)?;
         self.kept = Some(count);
         Ok(count)
     }

@@ -12,7 +12,7 @@ use crate::visitor::Visitor;
 use duk_store::{Disk, StoreFault};
 
 /// Brings a disk of records up, and shows each entry to a visitor: the disk's own restart, a test
-/// of its size, a sync, and reads of pieces of so many records to the last. It writes nothing.
+/// of its size, a sync, and reads of pieces to the last record. It writes nothing.
 ///
 /// Refused with `Device` where a device step failed, and with `Damaged` where the disk has no size
 /// of whole records, or keeps no list.
@@ -20,11 +20,9 @@ pub fn bring_up<D: Disk, F: Format, V: Visitor<F::Entry>>(
     disk: &mut D,
     format: &F,
     piece: &mut [u8],
-    most: usize,
     visitor: &mut V,
 ) -> Result<u64, StoreFault>
-    requires some { 1 ≤ most }
-    requires piece { length piece.old ≡ F.meaning.width * most }
+    requires { F.meaning.width ≤ length piece.old }
     ensures up { IfOk result (AreUp F.meaning V.visits visitor.old visitor.new
         (D.meaning.state_of disk.old) (D.meaning.state_of disk.new)) }
     ensures failed { IfErr result
@@ -32,7 +30,7 @@ pub fn bring_up<D: Disk, F: Format, V: Visitor<F::Entry>>(
     ensures length { length piece.new ≡ length piece.old }
 {
     open_records(disk, format)?;
-    count_entries(disk, format, piece, most, visitor)
+    count_entries(disk, format, piece, visitor)
 }
 
 /// Brings a disk of records up. It has one possible image then.
@@ -68,12 +66,10 @@ fn count_entries<D: Disk, F: Format, V: Visitor<F::Entry>>(
     disk: &mut D,
     format: &F,
     piece: &mut [u8],
-    most: usize,
     visitor: &mut V,
 ) -> Result<u64, StoreFault>
     requires size { IsRecordsSize F.meaning.width (D.meaning.state_of disk.old).size }
-    requires some { 1 ≤ most }
-    requires piece { length piece.old ≡ F.meaning.width * most }
+    requires piece { F.meaning.width ≤ length piece.old }
     ensures counted { IfOk result (AreCounted F.meaning V.visits visitor.old visitor.new
         (D.meaning.state_of disk.old) (D.meaning.state_of disk.new)) }
     ensures failed { IfErr result
@@ -82,16 +78,27 @@ fn count_entries<D: Disk, F: Format, V: Visitor<F::Entry>>(
 {
     format.laws();
     let width = format.width();
+    let most = records_in(format, piece);
     let records = disk.size() / width as u64;
     let mut reading = Reading::Groups { kept: 0, left: 0 };
     let mut place = 0;
     while place < records {
-        let count = (records - place).min(most as u64);
+        let count = (records - place).min(most);
         let bytes = &mut piece[..width * count as usize];
         reading = read_records(disk, format, place, count as usize, reading, bytes, visitor)?;
         place += count;
     }
     finish_reading(format, reading)
+}
+
+/// How many records a piece has room for.
+fn records_in<F: Format>(format: &F, piece: &[u8]) -> u64
+    requires { F.meaning.width ≤ length piece.now }
+    ensures some { 1 ≤ result }
+    ensures inside { F.meaning.width * result ≤ length piece.now }
+{
+    format.laws();
+    (piece.len() / format.width()) as u64
 }
 
 /// Reads so many records from a place on, which follow those that were read.
