@@ -71,7 +71,7 @@ impl<D: Disk> UsedLog for DiskLog<D> {
             (D.meaning.state_of self.new.disk) }
     {
         let mut record = [0; RECORD_LENGTH];
-        self.records.restart(&mut record, 1, &mut Unseen)
+        self.records.restart(&mut record, &mut Unseen)
     }
 
     fn len(&self) -> u64 {

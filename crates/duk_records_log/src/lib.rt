@@ -3,6 +3,7 @@
 #![tactic(auto)]
 
 mod disk_log;
+pub mod laws;
 mod log_format;
 mod memory_log;
 
