@@ -5,7 +5,7 @@ use Rattle.std.proofs.lemmas.Option.{get_or_from_slice_get}
 use Rattle.duk_store.specs.Disk.{DiffersWithin, DiskState, LeavesChanged, written}
 use Rattle.duk_records.specs.Records.{HasEntry, IsOpen, RecordFormat, after_gate, gate_of, record_at}
 use Rattle.duk_records.specs.inner.Groups.{AreWritten, followers_at}
-use Rattle.duk_records.specs.inner.GroupSteps.{AreContentsWritten, DiffersInContents, IsGroupTorn, IsGroupWritten, LeavesAllButGate, LeavesGates, LeavesOne, MayLeaveChanged}
+use Rattle.duk_records.specs.inner.GroupSteps.{AreContentsWritten, DiffersInContents, IsGateOpened, IsGroupTorn, IsGroupWritten, LeavesAllButGate, LeavesGates}
 use Rattle.duk_records.proofs.Addresses.{contents_written, ends_before, gate_written, gates_then, leaves_all_but, leaves_gates, other_record, written_differs}
 
 pub followers_of_first : (index count : ℕ) → index ≡ 0 → followers_at index count ≡ count - 1
@@ -45,11 +45,12 @@ module _ {E : Type 0} (format : RecordFormat E) (wide : 1 ≤ format.width) (gro
           ];
         }
 
-    pub next_torn : (old mid new : DiskState) → (old.honest → mid.honest) → MayLeaveChanged (LeavesGates format.width place (length group)) old mid → LeavesChanged (DiffersInContents format.width (place + index)) mid new
-        → MayLeaveChanged (LeavesGates format.width place (length group)) old new
+    pub next_torn : (old mid new : DiskState) → (old.honest → mid.honest) → LeavesChanged (LeavesGates format.width place (length group)) old mid → LeavesChanged (DiffersInContents format.width (place + index)) mid new
+        → LeavesChanged (LeavesGates format.width place (length group)) old new
     next_torn old mid new honest so_far torn h left could =
-        let start = torn (honest h) left could in
-        gates_then format.width place (length group) old.reads start.0 left (so_far h start.0 start.1) (next_leaves start.0 left start.2)
+        let middle = torn (honest h) left could in
+        let start = so_far h middle.0 middle.1 in
+        (start.0, start.1, gates_then format.width place (length group) start.0 middle.0 left start.2 (next_leaves middle.0 left middle.2))
 
   -- contents after another gate
   pub written_still : (count : ℕ) (y z : List ℕ) → LeavesAllButGate format.width place y z → AreWritten format count group place y → AreWritten format count group place z
@@ -85,14 +86,8 @@ module _ {E : Type 0} (format : RecordFormat E) (wide : 1 ≤ format.width) (gro
 
 -- ---- the gate of the first record
 
-pub gate_opened : (w : ℕ) → 1 ≤ w → (place : ℕ) (x z : List ℕ) → w * place + 1 ≤ length x → z ≡ written x (w * place) (1 ∷ []) → IsOpen (record_at w place z) × LeavesAllButGate w place x z
-gate_opened w wide place x z inside z_is = (
-  ap (λ (l : List ℕ). gate_of (record_at w place l)) z_is ∙ gate_written w wide place x inside,
-  leaves_all_but w wide place x z (subst (λ (l : List ℕ). DiffersWithin (w * place) 1 x l) (sym z_is) (written_differs x (1 ∷ []) (w * place) inside)),
-)
-
-pub gate_may_be_torn : (w : ℕ) → 1 ≤ w → (place : ℕ) (old new : DiskState) → LeavesOne old → LeavesChanged (DiffersWithin (w * place) 1) old new → MayLeaveChanged (LeavesAllButGate w place) old new
-gate_may_be_torn w wide place old new one torn h bytes left =
-    let start = torn h bytes left in
-    let is : start.0 ≡ old.reads = (one h start.0).0 start.1 in
-    leaves_all_but w wide place old.reads bytes (subst (λ (before : List ℕ). DiffersWithin (w * place) 1 before bytes) is start.2)
+pub gate_opened : (w : ℕ) → 1 ≤ w → (place : ℕ) (x z : List ℕ) → w * place + 1 ≤ length x → z ≡ written x (w * place) (1 ∷ []) → IsGateOpened w place x z
+gate_opened w wide place x z inside z_is = record {
+  is_open = ap (λ (l : List ℕ). gate_of (record_at w place l)) z_is ∙ gate_written w wide place x inside;
+  all_but = leaves_all_but w wide place x z (subst (λ (l : List ℕ). DiffersWithin (w * place) 1 x l) (sym z_is) (written_differs x (1 ∷ []) (w * place) inside));
+}

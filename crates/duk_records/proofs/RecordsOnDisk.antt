@@ -6,14 +6,15 @@ use Rattle.std.proofs.lemmas.List.{get_or-replicate, length-replicate}
 use Rattle.std.specs.List.{slice_get}
 use Rattle.duk_store.specs.Disk.{DiskMeaning, DiskState, HasFailed, LeavesItsSize, LeavesReads, LeavesWithin, PreservesBytes, PreservesDisk, ReadsMayStay, range_of}
 use Rattle.duk_store.specs.MemoryDisk.{CouldLeave, memory_disk_state, new_disk}
-use Rattle.duk_store.specs.Restart.{RestartFailed}
+use Rattle.duk_store.specs.Restart.{IsRestartFault, RestartFailed}
+use Rattle.duk_store.specs.inner.SlotSteps.{IsStepDone, IsStepFailed}
 use Rattle.duk_store.specs.StoreState.{FindsAsBefore, FindsSome, IsNew, KeepsNothing, PreservesNature, Stays}
 use Rattle.duk_store.specs.declared.fault.StoreFault.{StoreFault}
 use Rattle.duk_store.specs.declared.fault.StoreFault.TheVariants as fault
 use Rattle.duk_records.specs.Records.{AreClosedFrom, HasEntry, IsOpen, IsRecordsSize, KeepsEntries, RecordFormat, SaysOne, gate_of, record_at}
 use Rattle.duk_records.specs.DiskRecords.{AppendFailed, AreRestarted, BytesRefused, HaveStanding, IsAppended, IsBlankDisk, IsReadStopped, IsSound, IsZeroDisk, MayFind, RecordsOf, WithGroup, count_in, is_running, records_state, state_of}
-use Rattle.duk_records.specs.inner.DiskRecords.{AreCounted, AreRecordsRead, AreUp, CountFailed, HasSeen, IsDamagedDisk, IsOpenNow, KnowsCount, KnowsRecords, UpFailed}
-use Rattle.duk_records.specs.inner.GroupSteps.{GroupFailed, IsGroupTorn, IsGroupWritten, WritesGroup}
+use Rattle.duk_records.specs.inner.DiskRecords.{AreCounted, AreRecordsRead, AreUnread, AreUp, HasSeen, HoldsNoList, IsDamagedDisk, IsFaultOf, IsNotUp, IsOpenNow, KnowsCount, KnowsRecords}
+use Rattle.duk_records.specs.inner.GroupSteps.{IsGroupTorn, IsGroupWritten}
 use Rattle.duk_records.specs.inner.Groups.{AreWritten}
 use Rattle.duk_records.specs.inner.Reading.{HasRead}
 use Rattle.duk_records.specs.declared.reading.Reading.{Reading}
@@ -89,9 +90,11 @@ module _ {E : Type 0} (format : RecordFormat E) where
       holds = λ honest. let h = up.nature.honest.1 honest in record { leaves = up.leaves h; has = (up.entries, up.keeps h, up.counted) };
     }
 
-    not_damaged : IsSound format before → IsDamagedDisk format before → ⊥
-    not_damaged sound (inl size) = size sound.size
-    not_damaged sound (inr bad) = let kept = sound.each_keeps bad.0 bad.1 in bad.2 kept.0 kept.1
+    not_damaged : IsSound format before → IsDamagedDisk format before → before.honest → ⊥
+    not_damaged sound damage h = elim (damage h) [
+      | inl size ↦ size sound.size
+      | inr bad ↦ let kept = sound.each_keeps bad.0 bad.1 in bad.2 kept.0 kept.1
+    ]
 
     pub still_sound : PreservesDisk before after → LeavesWithin before after → before.honest → IsSound format before → IsSound format after
     still_sound nature within h sound = record { size = rw nature.size sound.size; each_keeps = λ bytes left. sound.each_keeps bytes (within h bytes left) }
@@ -102,30 +105,31 @@ module _ {E : Type 0} (format : RecordFormat E) where
         let kept = sound.each_keeps after.reads (within h after.reads left) in
         (kept.0, (after.reads, left, kept.1))
 
-    pub restart_failed : (old new : Option ℕ) → ReadsMayStay after → new ≡ None → (why : StoreFault) → UpFailed format before after why → RestartFailed (records_state format before old) (records_state format after new) why
-    restart_failed old new stays kept fault.Device failed = record {
+    pub restart_failed : (old new : Option ℕ) → ReadsMayStay after → new ≡ None → (why : StoreFault) → IsNotUp (IsDamagedDisk format before) before after why → RestartFailed (records_state format before old) (records_state format after new) why
+    restart_failed old new stays kept why failed = record {
       stops = record {
         nature = record { honest = failed.nature.honest; sound = still_sound failed.nature failed.within; calm = failed.nature.calm };
-        quiet = λ calm. absurd (failed.cause.not_calm calm);
+        quiet = λ calm. quiet why failed.cause calm;
         stopped = ap is_running kept;
         within = λ h value finds. (finds.0, failed.within h finds.0 finds.1, finds.2);
         some = some_list stays failed.nature failed.within;
       };
-      fault_is = failed.cause.failure;
+      fault_is = fault_is why failed.cause;
     }
-    restart_failed old new stays kept fault.Damaged failed = record {
-      stops = record {
-        nature = record { honest = failed.nature.honest; sound = still_sound failed.nature failed.within; calm = failed.nature.calm };
-        quiet = λ calm. failed.cause.no_failure;
-        stopped = ap is_running kept;
-        within = λ h value finds. (finds.0, failed.within h finds.0 finds.1, finds.2);
-        some = some_list stays failed.nature failed.within;
-      };
-      fault_is = record { unsound = λ h sound. not_damaged sound (failed.cause.damage h); no_failure = failed.cause.no_failure };
-    }
-    restart_failed old new stays kept fault.Stopped failed = absurd failed.cause
-    restart_failed old new stays kept fault.Worn failed = absurd failed.cause
-    restart_failed old new stays kept fault.NoMemory failed = absurd failed.cause
+      where
+        quiet : (why : StoreFault) → IsFaultOf (IsDamagedDisk format before) before after why → before.calm → after.failures ≡ before.failures
+        quiet fault.Device failed calm = absurd (failed.not_calm calm)
+        quiet fault.Damaged failed calm = failed.0
+        quiet fault.Stopped failed calm = absurd failed
+        quiet fault.Worn failed calm = absurd failed
+        quiet fault.NoMemory failed calm = absurd failed
+
+        fault_is : (why : StoreFault) → IsFaultOf (IsDamagedDisk format before) before after why → IsRestartFault (records_state format before old) (records_state format after new) why
+        fault_is fault.Device failed = failed.failure
+        fault_is fault.Damaged failed = record { unsound = λ h sound. not_damaged sound failed.1 h; no_failure = failed.0 }
+        fault_is fault.Stopped failed = absurd failed
+        fault_is fault.Worn failed = absurd failed
+        fault_is fault.NoMemory failed = absurd failed
 
   -- ---- a group that is written behind what is kept
 
@@ -165,10 +169,17 @@ module _ {E : Type 0} (format : RecordFormat E) where
     ]
 
   module _ (says : SaysOne format) (before after : DiskState) (old new : Option ℕ) (group : List E) (count : ℕ) (some : 1 ≤ length group) (kept : old ≡ Some count) (knows : KnowsCount format count before) where
-    appended_list : WritesGroup format group count before after → (h : before.honest) → KeepsEntries format after.reads ((knows.holds h).has.0 ++ group)
-    appended_list done h = let has = (knows.holds h).has in group_appended has.0 group count before.reads after.reads has.1 has.2 some (done.written h)
+    -- what a stop could have left keeps the list
+    kept_there_before : (h : before.honest) (bytes : List ℕ) → before.may_leave bytes → KeepsEntries format bytes (knows.holds h).has.0
+    kept_there_before h bytes could = let holds = knows.holds h in subst (λ (l : List ℕ). KeepsEntries format l holds.has.0) (sym ((holds.leaves bytes).0 could)) holds.has.1
 
-    pub knows_group : format.width * (count + length group) ≤ before.size → WritesGroup format group count before after → KnowsCount format (count + length group) after
+    appended_list : IsStepDone (IsGroupWritten format group count) before after → (h : before.honest) → KeepsEntries format after.reads ((knows.holds h).has.0 ++ group)
+    appended_list done h =
+        let has = (knows.holds h).has in
+        let start = done.changed h in
+        group_appended has.0 group count start.0 after.reads (kept_there_before h start.0 start.1) has.2 some start.2
+
+    pub knows_group : format.width * (count + length group) ≤ before.size → IsStepDone (IsGroupWritten format group count) before after → KnowsCount format (count + length group) after
     knows_group inside done = record {
       size = rw done.nature.size knows.size;
       size_fits = rw done.nature.size knows.size_fits;
@@ -179,7 +190,7 @@ module _ {E : Type 0} (format : RecordFormat E) where
           record { leaves = done.leaves h; has = (has.0 ++ group, appended_list done h, length-append has.0 group ∙ ap (λ (n : ℕ). n + length group) has.2) };
     }
 
-    pub records_appended : new ≡ Some (count + length group) → WritesGroup format group count before after → IsAppended (records_state format before old) (records_state format after new) group
+    pub records_appended : new ≡ Some (count + length group) → IsStepDone (IsGroupWritten format group count) before after → IsAppended (records_state format before old) (records_state format after new) group
     records_appended kept_then done = record {
       nature = record {
         honest = done.nature.honest;
@@ -198,17 +209,18 @@ module _ {E : Type 0} (format : RecordFormat E) where
     }
 
     -- each image that a stop could leave keeps the list, or the list with the whole group
-    each_list : (why : StoreFault) → GroupFailed format group count before after why → before.honest → (bytes : List ℕ) → after.may_leave bytes
+    each_list : (why : StoreFault) → IsStepFailed (IsGroupTorn format group count) before after why → before.honest → (bytes : List ℕ) → after.may_leave bytes
         → (entries : List E) × KeepsEntries format bytes entries × (MayFind format before entries ⊎ WithGroup (MayFind format before) group entries)
     each_list why failed h bytes left =
         let holds = knows.holds h in
         let old_list : MayFind format before holds.has.0 = (before.reads, (holds.leaves before.reads).1 refl, holds.has.1) in
-        elim (group_old_or_new holds.has.0 group count before.reads bytes holds.has.1 holds.has.2 some (failed.torn h bytes left)) [
+        let start = failed.changed h bytes left in
+        elim (group_old_or_new holds.has.0 group count start.0 bytes (kept_there_before h start.0 start.1) holds.has.2 some start.2) [
           | inl keeps ↦ (holds.has.0, keeps, inl old_list)
           | inr keeps ↦ (holds.has.0 ++ group, keeps, inr (holds.has.0, old_list, refl))
         ]
 
-    pub append_failed : ReadsMayStay after → new ≡ None → (why : StoreFault) → GroupFailed format group count before after why → AppendFailed (records_state format before old) (records_state format after new) group why
+    pub append_failed : ReadsMayStay after → new ≡ None → (why : StoreFault) → IsStepFailed (IsGroupTorn format group count) before after why → AppendFailed (records_state format before old) (records_state format after new) group why
     append_failed stays_then kept_then why failed = subst (λ (why : StoreFault). AppendFailed (records_state format before old) (records_state format after new) group why) (sym failed.failed.fault_is) (record {
       was_running = ap is_running kept;
       stops = record {
@@ -272,25 +284,20 @@ module _ {E : Type 0} (format : RecordFormat E) where
     within : PreservesBytes mid new → LeavesWithin old new
     within bytes h left could = subst (λ (l : List ℕ). old.may_leave l) (sym ((opened.leaves h left).0 ((bytes.may_leave left).0 could))) (opened.found h)
 
-    pub not_up : (why : StoreFault) → CountFailed format mid new why → UpFailed format old new why
-    not_up fault.Device failed = record {
+    pub not_up : (why : StoreFault) → AreUnread (HoldsNoList format mid) mid new why → IsNotUp (IsDamagedDisk format old) old new why
+    not_up why failed = record {
       nature = keeps_on old mid new opened.nature failed.nature;
       disarmed = failed.nature.disarmed opened.disarmed;
       within = within failed.bytes;
-      cause = fails_later old mid new fault.Device opened.nature opened.no_failure failed.cause;
+      cause = cause why failed.cause;
     }
-    not_up fault.Damaged failed = record {
-      nature = keeps_on old mid new opened.nature failed.nature;
-      disarmed = failed.nature.disarmed opened.disarmed;
-      within = within failed.bytes;
-      cause = record {
-        no_failure = failed.cause.no_failure ∙ opened.no_failure;
-        damage = λ h. inr (mid.reads, opened.found h, failed.cause.none (opened.nature.honest.0 h));
-      };
-    }
-    not_up fault.Stopped failed = absurd failed.cause
-    not_up fault.Worn failed = absurd failed.cause
-    not_up fault.NoMemory failed = absurd failed.cause
+      where
+        cause : (why : StoreFault) → IsFaultOf (HoldsNoList format mid) mid new why → IsFaultOf (IsDamagedDisk format old) old new why
+        cause fault.Device failed = fails_later old mid new fault.Device opened.nature opened.no_failure failed
+        cause fault.Damaged failed = (failed.0 ∙ opened.no_failure, λ h. inr (mid.reads, opened.found h, failed.1 (opened.nature.honest.0 h)))
+        cause fault.Stopped failed = absurd failed
+        cause fault.Worn failed = absurd failed
+        cause fault.NoMemory failed = absurd failed
 
   -- nothing is written where the records are brought up
   pub up_within : (before after : DiskState) {V : Type 0} (visits : V → E → V → Type 0) (first now : V) (count : ℕ) → AreUp format visits first now before after count → LeavesWithin before after

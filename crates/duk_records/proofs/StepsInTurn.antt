@@ -1,6 +1,7 @@
 -- One device call after another.
-use Rattle.std.proofs.Common.{◌≡◌, Ok, Err, Result, IfOk, OnOk, ◌∙◌, sym}
-use Rattle.duk_store.specs.Disk.{DiskState, HasFailed, PreservesBytes, PreservesDisk}
+use Rattle.std.proofs.Common.{◌≡◌, ℕ, List, Ok, Err, Result, IfOk, OnOk, length, ◌∙◌, subst, sym}
+use Rattle.duk_store.specs.Disk.{DiskState, HasFailed, LeavesItsSize, PreservesBytes, PreservesDisk}
+use Rattle.duk_store.specs.inner.SlotSteps.{Change, IsStepDone, IsStepFailed}
 use Rattle.duk_store.specs.declared.fault.StoreFault.{StoreFault}
 
 pub keeps_on : (old mid new : DiskState) → PreservesDisk old mid → PreservesDisk mid new → PreservesDisk old new
@@ -17,6 +18,47 @@ fails_later old mid new fault keeps none fails = record {
   fault_is = fails.fault_is;
   failure = λ same. fails.failure (same ∙ sym none);
   not_calm = λ calm. fails.not_calm (keeps.calm calm);
+}
+
+pub done_then : (one two both : Change) (old mid new : DiskState) → IsStepDone one old mid → IsStepDone two mid new → ((a b c : List ℕ) → one a b → two b c → both a c) → IsStepDone both old new
+done_then one two both old mid new first second joins = record {
+  nature = keeps_on old mid new first.nature second.nature;
+  no_failure = second.no_failure ∙ first.no_failure;
+  leaves = λ h. second.leaves (first.nature.honest.0 h);
+  changed = λ h.
+      let start = first.changed h in
+      let middle = second.changed (first.nature.honest.0 h) in
+      let is : middle.0 ≡ mid.reads = (first.leaves h middle.0).0 middle.1 in
+      (start.0, start.1, joins start.0 mid.reads new.reads start.2 (subst (λ bytes. two bytes new.reads) is middle.2));
+}
+
+pub done_then_failed : (one two both : Change) (old mid new : DiskState) (fault : StoreFault) → IsStepDone one old mid → IsStepFailed two mid new fault → ((a b c : List ℕ) → one a b → two b c → both a c)
+    → IsStepFailed both old new fault
+done_then_failed one two both old mid new fault first second joins = record {
+  nature = keeps_on old mid new first.nature second.nature;
+  failed = fails_later old mid new fault first.nature first.no_failure second.failed;
+  changed = λ h bytes left.
+      let start = first.changed h in
+      let middle = second.changed (first.nature.honest.0 h) bytes left in
+      let is : middle.0 ≡ mid.reads = (first.leaves h middle.0).0 middle.1 in
+      (start.0, start.1, joins start.0 mid.reads bytes start.2 (subst (λ before. two before bytes) is middle.2));
+}
+
+-- a change that is another one, at the disk's size
+pub done_as : (one other : Change) (old new : DiskState) (size : ℕ) → LeavesItsSize old → old.size ≡ size → ((a b : List ℕ) → length a ≡ size → one a b → other a b) → IsStepDone one old new → IsStepDone other old new
+done_as one other old new size lengths size_is follows done = record {
+  nature = done.nature;
+  no_failure = done.no_failure;
+  leaves = done.leaves;
+  changed = λ h. let start = done.changed h in (start.0, start.1, follows start.0 new.reads (lengths h start.0 start.1 ∙ size_is) start.2);
+}
+
+pub failed_as : (one other : Change) (old new : DiskState) (size : ℕ) (fault : StoreFault) → LeavesItsSize old → old.size ≡ size → ((a b : List ℕ) → length a ≡ size → one a b → other a b)
+    → IsStepFailed one old new fault → IsStepFailed other old new fault
+failed_as one other old new size fault lengths size_is follows failed = record {
+  nature = failed.nature;
+  failed = failed.failed;
+  changed = λ h bytes left. let start = failed.changed h bytes left in (start.0, start.1, follows start.0 bytes (lengths h start.0 start.1 ∙ size_is) start.2);
 }
 
 -- two facts of what succeeded

@@ -1,9 +1,10 @@
 //! The device calls that write a group of entries into the records of a disk.
 
 ghost use Rattle.std.specs.Prelude.{◌≡◌, ◌<◌, ◌≤◌, ◌+◌, ◌*◌, ◌^◌, ℕ, List, [], ◌∷◌, length, IfErr, OnOk};
-ghost use Rattle.duk_store.specs.Disk.{DiffersWithin, LeavesChanged, StaysArmed, written};
+ghost use Rattle.duk_store.specs.Disk.{DiffersWithin, StaysArmed, written};
+ghost use Rattle.duk_store.specs.inner.SlotSteps.{IsStepDone, IsStepFailed};
 ghost use Rattle.duk_records.specs.Records.{IsGroup};
-ghost use Rattle.duk_records.specs.inner.GroupSteps.{ContentsFailed, EntryUnwritten, GateFailed, GroupFailed, HasRecords, IsEntryWritten, LeavesOne, OpensGate, SyncsContents, WritesContents, WritesGroup};
+ghost use Rattle.duk_records.specs.inner.GroupSteps.{AreContentsWritten, DiffersInContents, HasRecords, IsEntryWritten, IsGateOpened, IsGroupTorn, IsGroupWritten, LeavesAllButGate, LeavesGates, WritesContents};
 ghost use Rattle.duk_records.specs.inner.Groups.{followers_at};
 
 use crate::format::Format;
@@ -22,11 +23,10 @@ pub fn write_group<D: Disk, F: Format>(
     requires group { IsGroup F.meaning group.now }
     requires room { HasRecords F.meaning.width place (length group.now)
         (D.meaning.state_of disk.old) }
-    requires one { LeavesOne (D.meaning.state_of disk.old) }
     requires piece { F.meaning.width ≤ length piece.old }
-    ensures written { OnOk result (WritesGroup F.meaning group.now place
+    ensures written { OnOk result (IsStepDone (IsGroupWritten F.meaning group.now place)
         (D.meaning.state_of disk.old) (D.meaning.state_of disk.new)) }
-    ensures failed { IfErr result (GroupFailed F.meaning group.now place
+    ensures failed { IfErr result (IsStepFailed (IsGroupTorn F.meaning group.now place)
         (D.meaning.state_of disk.old) (D.meaning.state_of disk.new)) }
     ensures arming { StaysArmed (D.meaning.state_of disk.old) (D.meaning.state_of disk.new) }
     ensures length { length piece.new ≡ length piece.old }
@@ -47,11 +47,12 @@ fn sync_contents<D: Disk, F: Format>(
     requires group { IsGroup F.meaning group.now }
     requires room { HasRecords F.meaning.width place (length group.now)
         (D.meaning.state_of disk.old) }
-    requires one { LeavesOne (D.meaning.state_of disk.old) }
     requires piece { F.meaning.width ≤ length piece.old }
-    ensures synced { OnOk result (SyncsContents F.meaning group.now place
+    ensures synced { OnOk result (IsStepDone
+        (AreContentsWritten F.meaning (length group.now) group.now place)
         (D.meaning.state_of disk.old) (D.meaning.state_of disk.new)) }
-    ensures failed { IfErr result (ContentsFailed F.meaning.width (length group.now) place
+    ensures failed { IfErr result (IsStepFailed
+        (LeavesGates F.meaning.width place (length group.now))
         (D.meaning.state_of disk.old) (D.meaning.state_of disk.new)) }
     ensures arming { StaysArmed (D.meaning.state_of disk.old) (D.meaning.state_of disk.new) }
     ensures length { length piece.new ≡ length piece.old }
@@ -62,17 +63,28 @@ fn sync_contents<D: Disk, F: Format>(
 
 /// Writes 1 into the gate of a record, and syncs it.
 fn open_gate<D: Disk, F: Format>(disk: &mut D, format: &F, place: u64) -> Result<(), StoreFault>
-    requires room { HasRecords F.meaning.width place 1 (D.meaning.state_of disk.old) }
-    requires one { LeavesOne (D.meaning.state_of disk.old) }
-    ensures open_now { OnOk result (OpensGate F.meaning.width place
+    requires { HasRecords F.meaning.width place 1 (D.meaning.state_of disk.old) }
+    ensures open_now { OnOk result (IsStepDone (IsGateOpened F.meaning.width place)
         (D.meaning.state_of disk.old) (D.meaning.state_of disk.new)) }
-    ensures failed { IfErr result (GateFailed F.meaning.width place
+    ensures failed { IfErr result (IsStepFailed (LeavesAllButGate F.meaning.width place)
         (D.meaning.state_of disk.old) (D.meaning.state_of disk.new)) }
     ensures arming { StaysArmed (D.meaning.state_of disk.old) (D.meaning.state_of disk.new) }
 {
     format.laws();
-    let gate = address(format, place);
-    disk.write_at(gate, &[OPEN])?;
+    write_through(disk, address(format, place), &[OPEN])
+}
+
+/// Writes bytes and syncs them.
+fn write_through<D: Disk>(disk: &mut D, at: u64, bytes: &[u8]) -> Result<(), StoreFault>
+    requires { at + length bytes.now ≤ (D.meaning.state_of disk.old).size }
+    ensures through { OnOk result
+        (IsStepDone (λ before after. after ≡ written before at bytes.now)
+        (D.meaning.state_of disk.old) (D.meaning.state_of disk.new)) }
+    ensures failed { IfErr result (IsStepFailed (DiffersWithin at (length bytes.now))
+        (D.meaning.state_of disk.old) (D.meaning.state_of disk.new)) }
+    ensures arming { StaysArmed (D.meaning.state_of disk.old) (D.meaning.state_of disk.new) }
+{
+    disk.write_at(at, bytes)?;
     disk.sync()
 }
 
@@ -87,11 +99,11 @@ fn write_contents<D: Disk, F: Format>(
     requires group { IsGroup F.meaning group.now }
     requires room { HasRecords F.meaning.width place (length group.now)
         (D.meaning.state_of disk.old) }
-    requires one { LeavesOne (D.meaning.state_of disk.old) }
     requires piece { F.meaning.width ≤ length piece.old }
     ensures written { OnOk result (WritesContents F.meaning (length group.now) group.now place
         (D.meaning.state_of disk.old) (D.meaning.state_of disk.new)) }
-    ensures failed { IfErr result (ContentsFailed F.meaning.width (length group.now) place
+    ensures failed { IfErr result (IsStepFailed
+        (LeavesGates F.meaning.width place (length group.now))
         (D.meaning.state_of disk.old) (D.meaning.state_of disk.new)) }
     ensures arming { StaysArmed (D.meaning.state_of disk.old) (D.meaning.state_of disk.new) }
     ensures length { length piece.new ≡ length piece.old }
@@ -126,7 +138,7 @@ fn write_entry<D: Disk, F: Format>(
     requires may { F.meaning.may_be_kept entry }
     ensures written { OnOk result (IsEntryWritten F.meaning place followers entry
         (D.meaning.state_of disk.old) (D.meaning.state_of disk.new)) }
-    ensures failed { IfErr result (EntryUnwritten F.meaning.width place
+    ensures failed { IfErr result (IsStepFailed (DiffersInContents F.meaning.width place)
         (D.meaning.state_of disk.old) (D.meaning.state_of disk.new)) }
     ensures arming { StaysArmed (D.meaning.state_of disk.old) (D.meaning.state_of disk.new) }
     ensures length { length piece.new ≡ length piece.old }

@@ -2,7 +2,7 @@
 
 ghost use Rattle.std.specs.Prelude.{◌≡◌, ◌*◌, ◌+◌, ◌<◌, ◌≤◌, ◌^◌, ◌↔◌, true, length, IfErr, IfOk, OnOk};
 ghost use Rattle.duk_records.specs.Records.{IsRecordsSize};
-ghost use Rattle.duk_records.specs.inner.DiskRecords.{AreCounted, AreRecordsRead, AreUp, CountFailed, IsOpenNow, OpenFailed, RecordsUnread, UpFailed};
+ghost use Rattle.duk_records.specs.inner.DiskRecords.{AreCounted, AreRecordsRead, AreUnread, AreUp, GoesOnInNoList, HoldsNoList, IsDamagedDisk, IsNotUp, IsOpenNow};
 ghost use Rattle.duk_records.specs.inner.Reading.{kept_in};
 
 use crate::format::Format;
@@ -25,8 +25,9 @@ pub fn bring_up<D: Disk, F: Format, V: Visitor<F::Entry>>(
     requires { F.meaning.width ≤ length piece.old }
     ensures up { IfOk result (AreUp F.meaning V.visits visitor.old visitor.new
         (D.meaning.state_of disk.old) (D.meaning.state_of disk.new)) }
-    ensures failed { IfErr result
-        (UpFailed F.meaning (D.meaning.state_of disk.old) (D.meaning.state_of disk.new)) }
+    ensures failed { IfErr result (IsNotUp
+        (IsDamagedDisk F.meaning (D.meaning.state_of disk.old))
+        (D.meaning.state_of disk.old) (D.meaning.state_of disk.new)) }
     ensures length { length piece.new ≡ length piece.old }
 {
     open_records(disk, format)?;
@@ -40,7 +41,8 @@ pub fn bring_up<D: Disk, F: Format, V: Visitor<F::Entry>>(
 fn open_records<D: Disk, F: Format>(disk: &mut D, format: &F) -> Result<(), StoreFault>
     ensures open_now { OnOk result (IsOpenNow F.meaning.width
         (D.meaning.state_of disk.old) (D.meaning.state_of disk.new)) }
-    ensures failed { IfErr result (OpenFailed F.meaning.width
+    ensures failed { IfErr result (IsNotUp
+        (¬ IsRecordsSize F.meaning.width (D.meaning.state_of disk.old).size)
         (D.meaning.state_of disk.old) (D.meaning.state_of disk.new)) }
 {
     disk.restart()?;
@@ -72,8 +74,9 @@ fn count_entries<D: Disk, F: Format, V: Visitor<F::Entry>>(
     requires piece { F.meaning.width ≤ length piece.old }
     ensures counted { IfOk result (AreCounted F.meaning V.visits visitor.old visitor.new
         (D.meaning.state_of disk.old) (D.meaning.state_of disk.new)) }
-    ensures failed { IfErr result
-        (CountFailed F.meaning (D.meaning.state_of disk.old) (D.meaning.state_of disk.new)) }
+    ensures failed { IfErr result (AreUnread
+        (HoldsNoList F.meaning (D.meaning.state_of disk.old))
+        (D.meaning.state_of disk.old) (D.meaning.state_of disk.new)) }
     ensures length { length piece.new ≡ length piece.old }
 {
     format.laws();
@@ -120,7 +123,8 @@ fn read_records<D: Disk, F: Format, V: Visitor<F::Entry>>(
     requires in_front { kept_in reading ≤ place }
     ensures read { IfOk result (AreRecordsRead F.meaning V.visits place count reading
         visitor.old visitor.new (D.meaning.state_of disk.old) (D.meaning.state_of disk.new)) }
-    ensures failed { IfErr result (RecordsUnread F.meaning place reading
+    ensures failed { IfErr result (AreUnread
+        (GoesOnInNoList F.meaning place reading (D.meaning.state_of disk.old))
         (D.meaning.state_of disk.old) (D.meaning.state_of disk.new)) }
     ensures length { length piece.new ≡ length piece.old }
 {

@@ -41,28 +41,24 @@ pub record IsOpenNow (width : ℕ) (old new : DiskState) : Type 0 where
   pub size : IsRecordsSize width new.size
   pub size_fits : new.size < 2 ^ 64
 
--- a device step failed, and a stop leaves no more than before
-pub record IsUpFailure (old new : DiskState) (fault : StoreFault) : Type 0 where
+-- why a call fails: a device step did, or none, and the disk is damaged so
+abbrev pub IsFaultOf : Type 0 → DiskState → DiskState → StoreFault → Type 0
+IsFaultOf damage old new Device = HasFailed old new Device
+IsFaultOf damage old new Damaged = (new.failures ≡ old.failures) × damage
+IsFaultOf damage old new _ = ⊥
+
+-- a disk is not brought up, and a stop leaves no more than before
+pub record IsNotUp (damage : Type 0) (old new : DiskState) (fault : StoreFault) : Type 0 where
   pub nature : PreservesDisk old new
-  pub failed : HasFailed old new fault
-  pub within : LeavesWithin old new
-
--- the disk has no size of whole records
-pub record HasNoSize (width : ℕ) (old new : DiskState) : Type 0 where
-  pub nature : PreservesDisk old new
-  pub no_failure : new.failures ≡ old.failures
-  pub within : LeavesWithin old new
-  pub size : ¬ IsRecordsSize width old.size
-
--- why it is not brought up
-abbrev pub IsOpenFault : ℕ → DiskState → DiskState → StoreFault → Type 0
-IsOpenFault width old new Device = IsUpFailure old new Device
-IsOpenFault width old new Damaged = HasNoSize width old new
-IsOpenFault width old new _ = ⊥
-
-pub record OpenFailed (width : ℕ) (old new : DiskState) (fault : StoreFault) : Type 0 where
   pub disarmed : new.disarmed
-  pub cause : IsOpenFault width old new fault
+  pub within : LeavesWithin old new
+  pub cause : IsFaultOf damage old new fault
+
+-- records are not read, and nothing changes
+pub record AreUnread (damage : Type 0) (old new : DiskState) (fault : StoreFault) : Type 0 where
+  pub nature : PreservesDisk old new
+  pub bytes : PreservesBytes old new
+  pub cause : IsFaultOf damage old new fault
 
 -- the records before a place were read, and what they have was shown to a visitor
 pub record HasSeen
@@ -88,26 +84,11 @@ pub record AreRecordsRead
   pub read : old.honest → (entries : List E) → HasRead format before entries place old.reads
       → HasRead format after (entries ++ more) (place + count) old.reads
 
--- why they are not: a device step failed, or no list goes on so
-pub record GoesOnInNoList
-    {E : Type 0} (format : RecordFormat E) (place : ℕ) (before : Reading) (old new : DiskState)
-    : Type 0 where
-  pub no_failure : new.failures ≡ old.failures
-  pub none : old.honest → (entries : List E) → HasRead format before entries place old.reads
-      → KeepsNone format old.reads
-
-abbrev pub IsUnreadFault :
-    {E : Type 0} → RecordFormat E → ℕ → Reading → DiskState → DiskState → StoreFault → Type 0
-IsUnreadFault format place before old new Device = HasFailed old new Device
-IsUnreadFault format place before old new Damaged = GoesOnInNoList format place before old new
-IsUnreadFault format place before old new _ = ⊥
-
-pub record RecordsUnread
-    {E : Type 0} (format : RecordFormat E) (place : ℕ) (before : Reading) (old new : DiskState)
-    (fault : StoreFault) : Type 0 where
-  pub nature : PreservesDisk old new
-  pub bytes : PreservesBytes old new
-  pub cause : IsUnreadFault format place before old new fault
+-- no list goes on so
+abbrev pub GoesOnInNoList :
+    {E : Type 0} → RecordFormat E → ℕ → Reading → DiskState → Type 0
+GoesOnInNoList {E} format place before disk = disk.honest → (entries : List E)
+    → HasRead format before entries place disk.reads → KeepsNone format disk.reads
 
 -- the entries are counted, and were shown to a visitor
 pub record AreCounted
@@ -121,23 +102,6 @@ pub record AreCounted
   pub visited : Visits visits first entries now
   pub counted : length entries ≡ count
   pub keeps : old.honest → KeepsEntries format old.reads entries
-
--- why they are not: a device step failed, or the records keep no list
-pub record FoundNoList {E : Type 0} (format : RecordFormat E) (old new : DiskState) : Type 0 where
-  pub no_failure : new.failures ≡ old.failures
-  pub none : old.honest → KeepsNone format old.reads
-
-abbrev pub IsCountFault :
-    {E : Type 0} → RecordFormat E → DiskState → DiskState → StoreFault → Type 0
-IsCountFault format old new Device = HasFailed old new Device
-IsCountFault format old new Damaged = FoundNoList format old new
-IsCountFault format old new _ = ⊥
-
-pub record CountFailed
-    {E : Type 0} (format : RecordFormat E) (old new : DiskState) (fault : StoreFault) : Type 0 where
-  pub nature : PreservesDisk old new
-  pub bytes : PreservesBytes old new
-  pub cause : IsCountFault format old new fault
 
 -- the records are brought up: they know their disk, and a visitor was shown the list
 pub record AreUp
@@ -156,26 +120,12 @@ pub record AreUp
   pub counted : length entries ≡ count
   pub keeps : old.honest → KeepsEntries format new.reads entries
 
+-- the records keep no list
+abbrev pub HoldsNoList : {E : Type 0} → RecordFormat E → DiskState → Type 0
+HoldsNoList format disk = disk.honest → KeepsNone format disk.reads
+
 -- what a stop leaves of a disk that has no size of whole records, or keeps no list
 abbrev pub IsDamagedDisk : {E : Type 0} → RecordFormat E → DiskState → Type 0
-IsDamagedDisk format disk =
-    (¬ IsRecordsSize format.width disk.size)
+IsDamagedDisk format disk = disk.honest
+    → (¬ IsRecordsSize format.width disk.size)
     ⊎ ((bytes : List ℕ) × disk.may_leave bytes × KeepsNone format bytes)
-
-pub record FoundDamage {E : Type 0} (format : RecordFormat E) (old new : DiskState) : Type 0 where
-  pub no_failure : new.failures ≡ old.failures
-  pub damage : old.honest → IsDamagedDisk format old
-
--- why they are not brought up
-abbrev pub IsUpFault :
-    {E : Type 0} → RecordFormat E → DiskState → DiskState → StoreFault → Type 0
-IsUpFault format old new Device = HasFailed old new Device
-IsUpFault format old new Damaged = FoundDamage format old new
-IsUpFault format old new _ = ⊥
-
-pub record UpFailed
-    {E : Type 0} (format : RecordFormat E) (old new : DiskState) (fault : StoreFault) : Type 0 where
-  pub nature : PreservesDisk old new
-  pub disarmed : new.disarmed
-  pub within : LeavesWithin old new
-  pub cause : IsUpFault format old new fault

@@ -1,8 +1,7 @@
 -- What the device calls of an append do to the disk of records, where they are done and where one
 -- fails: this project's own.
 use Rattle.std.specs.Prelude.{◌≡◌, ◌≢◌, ◌⊎◌, ◌<◌, ◌≤◌, ◌+◌, ◌-◌, ◌*◌, ◌^◌, ℕ, List, length}
-use Rattle.duk_store.specs.Disk.{DiffersWithin, DiskState, HasFailed, LeavesChanged, LeavesReads, PreservesDisk, written}
-use Rattle.duk_store.specs.declared.fault.StoreFault.{StoreFault}
+use Rattle.duk_store.specs.Disk.{DiffersWithin, DiskState, LeavesChanged, PreservesDisk, written}
 use Rattle.duk_records.specs.Records.{IsOpen, RecordFormat, after_gate, gate_of, record_at}
 use Rattle.duk_records.specs.inner.Groups.{AreWritten}
 
@@ -27,15 +26,6 @@ pub record HasRecords (width place count : ℕ) (disk : DiskState) : Type 0 wher
   pub inside : width * (place + count) ≤ disk.size
   pub fits : disk.size < 2 ^ 64
 
--- what the disk of running records leaves is what a read of it gives
-abbrev pub LeavesOne : DiskState → Type 0
-LeavesOne disk = disk.honest → LeavesReads disk
-
--- whatever a stop leaves is changed so from what a read gave
-abbrev pub MayLeaveChanged : (List ℕ → List ℕ → Type 0) → DiskState → DiskState → Type 0
-MayLeaveChanged change old new =
-    old.honest → (bytes : List ℕ) → new.may_leave bytes → change old.reads bytes
-
 -- bytes in which the contents of the record at a place are any
 abbrev pub DiffersInContents : ℕ → ℕ → List ℕ → List ℕ → Type 0
 DiffersInContents width place = DiffersWithin (width * place + 1) (width - 1)
@@ -52,12 +42,6 @@ pub record IsEntryWritten
   pub says : format.says contents followers entry
   pub reads : old.honest → new.reads ≡ written old.reads (format.width * place + 1) contents
 
--- the device call failed in it
-pub record EntryUnwritten (width place : ℕ) (old new : DiskState) (fault : StoreFault) : Type 0 where
-  pub nature : PreservesDisk old new
-  pub failed : HasFailed old new fault
-  pub torn : LeavesChanged (DiffersInContents width place) old new
-
 -- the contents of the first records of a group are written, and not synced
 pub record AreContentsWritten
     {E : Type 0} (format : RecordFormat E) (count : ℕ) (group : List E) (place : ℕ)
@@ -70,15 +54,13 @@ pub record WritesContents
     (old new : DiskState) : Type 0 where
   pub nature : PreservesDisk old new
   pub no_failure : new.failures ≡ old.failures
-  pub torn : MayLeaveChanged (LeavesGates format.width place (length group)) old new
+  pub torn : LeavesChanged (LeavesGates format.width place (length group)) old new
   pub reads : old.honest → AreContentsWritten format count group place old.reads new.reads
 
--- a device call failed in it
-pub record ContentsFailed
-    (width count place : ℕ) (old new : DiskState) (fault : StoreFault) : Type 0 where
-  pub nature : PreservesDisk old new
-  pub failed : HasFailed old new fault
-  pub torn : MayLeaveChanged (LeavesGates width place count) old new
+-- the gate of a record is opened, and all else is as it was
+pub record IsGateOpened (width place : ℕ) (before after : List ℕ) : Type 0 where
+  pub is_open : IsOpen (record_at width place after)
+  pub all_but : LeavesAllButGate width place before after
 
 -- a group is written and open: nothing else is changed
 pub record IsGroupWritten
@@ -107,42 +89,3 @@ pub record IsGroupTorn
       ≡ gate_of (record_at format.width other before)
   pub beside : (other : ℕ) → (other < place) ⊎ (place + length group ≤ other)
       → record_at format.width other after ≡ record_at format.width other before
-
-pub record WritesGroup
-    {E : Type 0} (format : RecordFormat E) (group : List E) (place : ℕ) (old new : DiskState)
-    : Type 0 where
-  pub nature : PreservesDisk old new
-  pub no_failure : new.failures ≡ old.failures
-  pub leaves : old.honest → LeavesReads new
-  pub written : old.honest → IsGroupWritten format group place old.reads new.reads
-
-pub record GroupFailed
-    {E : Type 0} (format : RecordFormat E) (group : List E) (place : ℕ) (old new : DiskState)
-    (fault : StoreFault) : Type 0 where
-  pub nature : PreservesDisk old new
-  pub failed : HasFailed old new fault
-  pub torn : MayLeaveChanged (IsGroupTorn format group place) old new
-
--- the contents of a group are written and synced
-pub record SyncsContents
-    {E : Type 0} (format : RecordFormat E) (group : List E) (place : ℕ) (old new : DiskState)
-    : Type 0 where
-  pub nature : PreservesDisk old new
-  pub no_failure : new.failures ≡ old.failures
-  pub leaves : old.honest → LeavesReads new
-  pub written : old.honest
-      → AreContentsWritten format (length group) group place old.reads new.reads
-
--- the gate of a record is opened and synced
-pub record OpensGate (width place : ℕ) (old new : DiskState) : Type 0 where
-  pub nature : PreservesDisk old new
-  pub no_failure : new.failures ≡ old.failures
-  pub leaves : old.honest → LeavesReads new
-  pub is_open : old.honest → IsOpen (record_at width place new.reads)
-  pub all_but : old.honest → LeavesAllButGate width place old.reads new.reads
-
--- a device call failed in it
-pub record GateFailed (width place : ℕ) (old new : DiskState) (fault : StoreFault) : Type 0 where
-  pub nature : PreservesDisk old new
-  pub failed : HasFailed old new fault
-  pub all_but : MayLeaveChanged (LeavesAllButGate width place) old new

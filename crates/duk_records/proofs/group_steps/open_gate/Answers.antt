@@ -1,59 +1,25 @@
-use Rattle.std.proofs.Common.{◌∙◌, ◌≡◌, ◌*◌, ◌+◌, ◌∷◌, [], ℕ, arith, subst}
-use Rattle.std.proofs.Math.Nat.{mul-add}
-use Rattle.std.proofs.lemmas.Result.{IfErr-weaker, err_from_is_err_and}
-use Rattle.duk_store.specs.Disk.{DiffersWithin, LeavesChanged, written}
-use Rattle.duk_records.specs.Records.{IsOpen, record_at}
-use Rattle.duk_records.specs.inner.GroupSteps.{LeavesAllButGate}
-use Rattle.duk_records.proofs.GroupWritten.{gate_may_be_torn, gate_opened}
-use Rattle.duk_records.proofs.StepsInTurn.{both_ok, fails_later, keeps_on}
+use Rattle.std.proofs.Common.{◌≡◌, ◌∷◌, [], ℕ, arith, refl, subst}
+use Rattle.std.proofs.lemmas.Result.{IfErr-weaker, on_ok_weaker}
+use Rattle.duk_store.specs.Disk.{DiffersWithin, written}
+use Rattle.duk_records.proofs.Addresses.{leaves_all_but}
+use Rattle.duk_records.proofs.GroupWritten.{gate_opened}
+use Rattle.duk_records.proofs.StepsInTurn.{done_as, failed_as}
 use Rattle.duk_records.proofs.group_steps.open_gate.Goals as goal
-
-pub returns-in_err-write_at-clause-failed : goal.returns-in_err-write_at-clause-failed
-returns-in_err-write_at-clause-failed g c =
-    let p = err_from_is_err_and c.from_residual.result c.from_residual.ensures.1 in
-    let old = g.D.Disk.meaning.state_of c.args.disk.now in
-    let mid = g.D.Disk.meaning.state_of c.write_at.new.self in
-    let w = g.F.Format.meaning.width in
-    rw (p.1, p.2) (record {
-      nature = c.write_at.ensures.nature;
-      failed = c.in_err-write_at.ensures.failed;
-      all_but = gate_may_be_torn w c.laws.ensures.gate c.args.place old mid c.requires.one (subst (λ (at : ℕ). LeavesChanged (DiffersWithin at 1) old mid) c.address-gate.ensures c.write_at.ensures.torn);
-    })
 
 pub returns-clause-open_now : goal.returns-clause-open_now
 returns-clause-open_now g c =
     let old = g.D.Disk.meaning.state_of c.args.disk.now in
-    let mid = g.D.Disk.meaning.state_of c.write_at.new.self in
-    let new = g.D.Disk.meaning.state_of c.sync.new.self in
     let w = g.F.Format.meaning.width in
-    let place = c.args.place in
-    both_ok c.sync.result c.sync.ensures.synced c.sync.ensures.no_failure
-    (λ synced none.
-    let opened : old.honest → IsOpen (record_at w place new.reads) × LeavesAllButGate w place old.reads new.reads = λ h.
-    let size = g.D.Disk.leaves_its_size c.args.disk.now h old.reads (g.D.Disk.reads_may_stay c.args.disk.now h) in
-    let ends : w * (place + 1) ≡ w * place + w * 1 = mul-add w place 1 in
-    gate_opened w c.laws.ensures.gate place old.reads new.reads (omega (arith, size, ends, c.requires.room.inside, c.laws.ensures.gate))
-    ((synced (c.write_at.ensures.nature.honest.0 h)).reads ∙ subst (λ (at : ℕ). mid.reads ≡ written old.reads at (1 ∷ [])) c.address-gate.ensures (c.in_ok-write_at.ensures.written h)) in
-    record {
-      nature = keeps_on old mid new c.write_at.ensures.nature c.sync.ensures.nature;
-      no_failure = none ∙ c.in_ok-write_at.ensures.no_failure;
-      leaves = λ h. (synced (c.write_at.ensures.nature.honest.0 h)).leaves;
-      is_open = λ h. (opened h).0;
-      all_but = λ h. (opened h).1;
-    })
+    on_ok_weaker c.write_through.result
+    (done_as _ _ old _ old.size (g.D.Disk.leaves_its_size c.args.disk.now) refl
+    (λ x z size is. gate_opened w c.laws.ensures.gate c.args.place x z (omega (arith, size, c.requires.inside, c.laws.ensures.gate)) (subst (λ (at : ℕ). z ≡ written x at (1 ∷ [])) c.address.ensures is)))
+    c.write_through.ensures.through
 
 pub returns-clause-failed : goal.returns-clause-failed
 returns-clause-failed g c =
     let old = g.D.Disk.meaning.state_of c.args.disk.now in
-    let mid = g.D.Disk.meaning.state_of c.write_at.new.self in
-    let new = g.D.Disk.meaning.state_of c.sync.new.self in
     let w = g.F.Format.meaning.width in
-    IfErr-weaker c.sync.result _ _
-    (λ fault failed. record {
-      nature = keeps_on old mid new c.write_at.ensures.nature c.sync.ensures.nature;
-      failed = fails_later old mid new fault c.write_at.ensures.nature c.in_ok-write_at.ensures.no_failure failed;
-      all_but = λ h bytes left.
-          gate_may_be_torn w c.laws.ensures.gate c.args.place old mid c.requires.one (subst (λ (at : ℕ). LeavesChanged (DiffersWithin at 1) old mid) c.address-gate.ensures c.write_at.ensures.torn)
-          h bytes (c.sync.ensures.within (c.write_at.ensures.nature.honest.0 h) bytes left);
-    })
-    c.sync.ensures.failed
+    IfErr-weaker c.write_through.result _ _
+    (λ fault. failed_as _ _ old _ old.size fault (g.D.Disk.leaves_its_size c.args.disk.now) refl
+    (λ x z size torn. leaves_all_but w c.laws.ensures.gate c.args.place x z (subst (λ (at : ℕ). DiffersWithin at 1 x z) c.address.ensures torn)))
+    c.write_through.ensures.failed

@@ -24,7 +24,7 @@ returns-in_err-write_entry-clause-failed g c =
     rw (p.1, p.2) (record {
       nature = keeps_on old mid new i.nature e.nature;
       failed = fails_later old mid new _ i.nature i.no_failure e.failed;
-      torn = next_torn g.F.Format.meaning c.laws.ensures.gate c.args.group.now c.args.place c.loop-index.index c.loop-index-test.true old mid new i.nature.honest.0 i.torn e.torn;
+      changed = next_torn g.F.Format.meaning c.laws.ensures.gate c.args.group.now c.args.place c.loop-index.index c.loop-index-test.true old mid new i.nature.honest.0 i.torn e.changed;
     })
 
 pub loop-index-preserved : goal.loop-index-preserved

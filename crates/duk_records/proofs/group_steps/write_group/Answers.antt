@@ -1,37 +1,18 @@
-use Rattle.std.proofs.Common.{◌∙◌}
 use Rattle.std.proofs.lemmas.Result.{IfErr-weaker, on_ok_weaker}
 use Rattle.duk_records.proofs.GroupWritten.{group_torn, group_written}
-use Rattle.duk_records.proofs.StepsInTurn.{fails_later, keeps_on}
+use Rattle.duk_records.proofs.StepsInTurn.{done_then, done_then_failed}
 use Rattle.duk_records.proofs.group_steps.write_group.Goals as goal
 
 pub returns-clause-written : goal.returns-clause-written
 returns-clause-written g c =
-    let old = g.D.Disk.meaning.state_of c.args.disk.now in
-    let mid = g.D.Disk.meaning.state_of c.sync_contents.new.disk in
-    let new = g.D.Disk.meaning.state_of c.open_gate.new.disk in
-    let synced = c.in_ok-sync_contents.ensures.synced in
     on_ok_weaker c.open_gate.result
-    (λ opens. record {
-      nature = keeps_on old mid new synced.nature opens.nature;
-      no_failure = opens.no_failure ∙ synced.no_failure;
-      leaves = λ h. opens.leaves (synced.nature.honest.0 h);
-      written = λ h.
-          let honest = synced.nature.honest.0 h in
-          group_written g.F.Format.meaning c.laws.ensures.gate c.args.group.now c.args.place old.reads mid.reads new.reads c.requires.group.some (synced.written h) (opens.all_but honest) (opens.is_open honest);
-    })
+    (λ opens. done_then _ _ _ _ _ _ c.in_ok-sync_contents.ensures.synced opens
+    (λ x y z contents opened. group_written g.F.Format.meaning c.laws.ensures.gate c.args.group.now c.args.place x y z c.requires.group.some contents opened.all_but opened.is_open))
     c.open_gate.ensures.open_now
 
 pub returns-clause-failed : goal.returns-clause-failed
 returns-clause-failed g c =
-    let old = g.D.Disk.meaning.state_of c.args.disk.now in
-    let mid = g.D.Disk.meaning.state_of c.sync_contents.new.disk in
-    let new = g.D.Disk.meaning.state_of c.open_gate.new.disk in
-    let synced = c.in_ok-sync_contents.ensures.synced in
     IfErr-weaker c.open_gate.result _ _
-    (λ fault failed. record {
-      nature = keeps_on old mid new synced.nature failed.nature;
-      failed = fails_later old mid new fault synced.nature synced.no_failure failed.failed;
-      torn = λ h bytes left.
-          group_torn g.F.Format.meaning c.laws.ensures.gate c.args.group.now c.args.place old.reads mid.reads bytes c.requires.group.some (synced.written h) (failed.all_but (synced.nature.honest.0 h) bytes left);
-    })
+    (λ fault failed. done_then_failed _ _ _ _ _ _ fault c.in_ok-sync_contents.ensures.synced failed
+    (λ x y z contents all_but. group_torn g.F.Format.meaning c.laws.ensures.gate c.args.group.now c.args.place x y z c.requires.group.some contents all_but))
     c.open_gate.ensures.failed

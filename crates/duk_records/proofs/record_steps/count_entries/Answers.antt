@@ -4,7 +4,7 @@ use Rattle.std.proofs.lemmas.List.{length-take}
 use Rattle.std.proofs.lemmas.Result.{IfErr-weaker}
 use Rattle.duk_store.specs.declared.fault.StoreFault.{StoreFault}
 use Rattle.duk_records.specs.Records.{IsRecordsSize}
-use Rattle.duk_records.specs.inner.DiskRecords.{CountFailed}
+use Rattle.duk_records.specs.inner.DiskRecords.{AreUnread, HoldsNoList}
 use Rattle.duk_records.proofs.Addresses.{begins_behind}
 use Rattle.duk_records.proofs.RecordsOnDisk.{nothing_seen, seen_more}
 use Rattle.duk_records.proofs.StepsInTurn.{both_found, bytes_on, keeps_on}
@@ -84,16 +84,16 @@ returns-clause-failed g c =
     let new = g.D.Disk.meaning.state_of c.loop-place.disk in
     let records = c.size.result / c.width-width.result in
     IfErr-weaker c.finish_reading.result _ _
-    (λ fault refused. subst (λ (why : StoreFault). CountFailed format old new why) (sym refused.0) (record {
+    (λ fault refused. subst (λ (why : StoreFault). AreUnread (HoldsNoList format old) old new why) (sym refused.0) (record {
       nature = i.nature;
       bytes = i.bytes;
-      cause = record {
-        no_failure = i.no_failure;
-        none = λ h.
+      cause = (
+        i.no_failure,
+        (λ h.
             let length_is : length old.reads ≡ old.size = g.D.Disk.leaves_its_size c.args.disk.now h old.reads (g.D.Disk.reads_may_stay c.args.disk.now h) in
             refused.1 seen.entries c.loop-place.place old.reads
             (length_is ∙ read_to_end format.width old.size c.width-width.result records c.loop-place.place c.laws.ensures.gate c.requires.size c.width-width.ensures (ap (λ (n : ℕ). n / c.width-width.result) c.size.ensures) i.in_front c.loop-place-test.false)
-            (seen.read h);
-      };
+            (seen.read h)),
+      );
     }))
     c.finish_reading.ensures.refused

@@ -3,7 +3,7 @@ use Rattle.std.proofs.Math.Nat.{mul-le-mul_right}
 use Rattle.std.proofs.lemmas.Result.{IfErr-weaker, IfOk-weaker}
 use Rattle.duk_store.specs.Disk.{range_of}
 use Rattle.duk_store.specs.declared.fault.StoreFault.{StoreFault}
-use Rattle.duk_records.specs.inner.DiskRecords.{RecordsUnread}
+use Rattle.duk_records.specs.inner.DiskRecords.{AreUnread, GoesOnInNoList}
 use Rattle.duk_records.specs.inner.Reading.{StandsAt}
 use Rattle.duk_records.proofs.record_steps.read_records.Goals as goal
 
@@ -42,12 +42,9 @@ returns-clause-failed g c =
     let stands : old.honest → StandsAt w c.args.place piece old.reads = λ h.
     c.in_ok-read_at.ensures.read h ∙ ap (λ (at : ℕ). range_of at (length c.args.piece.now) old.reads) c.address.ensures ∙ ap (λ (n : ℕ). range_of (w * c.args.place) n old.reads) (sym c.read_at.ensures.length) in
     IfErr-weaker c.read_piece.result _ _
-    (λ fault refused. subst (λ (why : StoreFault). RecordsUnread g.F.Format.meaning c.args.place c.args.reading old new why) (sym refused.0) (record {
+    (λ fault refused. subst (λ (why : StoreFault). AreUnread (GoesOnInNoList g.F.Format.meaning c.args.place c.args.reading old) old new why) (sym refused.0) (record {
       nature = c.read_at.ensures.nature;
       bytes = c.read_at.ensures.bytes;
-      cause = record {
-        no_failure = c.in_ok-read_at.ensures.no_failure;
-        none = λ h entries was. refused.1 entries c.args.place old.reads (stands h) was;
-      };
+      cause = (c.in_ok-read_at.ensures.no_failure, (λ h entries was. refused.1 entries c.args.place old.reads (stands h) was));
     }))
     c.read_piece.ensures.refused
