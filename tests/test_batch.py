@@ -13,7 +13,7 @@ from .support.case import ProgramCase
 from .support.everyday import derive_lines
 from .support.everyday_cases import Draw
 from .support.everyday_rows import (
-    BASE, INITIAL, KEY_BLOCK, PAN, PIN, PIN_KEY, REPLY, REQUEST, SERIAL, ZONE)
+    BASE, INITIAL, KBPK, KEY_BLOCK, PAN, PIN, PIN_KEY, REPLY, REQUEST, SERIAL, ZONE)
 from .support.everyday_words import INPUTS, expected
 from .support.images import RECORD
 from .support.leaks import leaks_of_batch
@@ -33,15 +33,17 @@ KINDS = (
     (KCV, BASE, (BASE[:-1], f"{BASE} {ZONE}", "@missing", "--show")),
     (PINS, PIN, ("123", "12a4", "1234567890123", "\u0661234")),
     (PANS, PAN, ("40123456789", "4012345678901234567x")),
+    (Batch("unwrap", (KBPK, "-")), KEY_BLOCK, (KEY_BLOCK[:-1], f"{KEY_BLOCK[:-1]}0", "-", "@missing")),
     (FRAMES, REQUEST, (REPLY[:-1], f"{REQUEST} ", "--show", KEY_BLOCK)),
     (BLOCKS, OPTIONAL, (KEY_BLOCK[:-1], f"@{KEY_BLOCK}", "-", REQUEST)),
     (IMAGES, NEW_IMAGE.hex(), (NEW_IMAGE.hex()[:-1], "@missing", REPLY)),
     (OPEN_IMAGES, NEW_IMAGE.hex(), (NEW_IMAGE.hex()[2:], "--show", "\u0660")),
 )
-# What goes wrong with the other arguments: each answer says it.
+# What goes wrong with the other arguments: nothing is answered.
 WRONG = (Batch("derive", ("x", "-")), Batch("derive", ("x", "-"), ("initial",)),
          Batch("pin", ("-", "x")), Batch("pin", ("x", "-")),
-         Batch("pin", ("-", PAN), (), {"key": "x"}))
+         Batch("pin", ("-", PAN), (), {"key": "x"}), Batch("pin", ("-", "x"), (), {"key": "x"}),
+         Batch("unwrap", ("x", "-")))
 # So many of each kind at random, on all programs that are tried.
 ITEMS = 10_000
 COUNT = 100_000
@@ -137,7 +139,7 @@ class Items(BatchCase):
                 self.check(batch, bad)
 
     def test_other_arguments(self) -> None:
-        """Wrong ones are told of each item, and of none where there is none."""
+        """Wrong ones are told alone, whatever the items are."""
         for batch in WRONG:
             self.check(batch, b"")
             self.check(batch, f"{PIN}\n{PAN}\n{SERIAL}\n\n".encode())
@@ -250,7 +252,10 @@ class Random(BatchCase):
             batch = Batch("derive", (draw.key(16)[1], "-"), flags)
             return batch, [draw.number()[1] for _ in range(count)]
         if command == "kcv":
-            return KCV, [draw.key(16, 24)[1] for _ in range(count)]
+            return KCV, [draw.checked_key(16, 24) for _ in range(count)]
+        if command == "unwrap":
+            protection, word = draw.key(16, 24)
+            return Batch("unwrap", (word, "-")), [draw.key_block(protection) for _ in range(count)]
         valued = {} if draw.one_in(2) else {"key": draw.key(16)[1]}
         if command == "PINs":
             pins = [draw.pin()[1] for _ in range(count)]
@@ -297,6 +302,9 @@ class Random(BatchCase):
 
     def test_pans(self) -> None:
         self.play("PANs")
+
+    def test_unwrap(self) -> None:
+        self.play("unwrap")
 
 
 class Shown(BatchCase):

@@ -27,6 +27,8 @@ CALLS = [
     "request checked, 1,000 in a call", "PIN block, enciphered", "retail MAC of a request",
     "key block, unwrapped", "registers, `dukpt_registers_next`", "derivation, Python",
 ]
+HOST = ["200, 1", "200, 20", "an answer, at 200 a second", "a write and its sync"]
+AFTER_A_KILL = r"^a kill over 1,000 payments: .* s to the next answer\n  the journal was .*\n  serving .*$"
 STARTS = ["in order", "every second missing"]
 # What is printed of hosts that share a journal, with the payments that are acknowledged and kept.
 REPLICAS = [
@@ -75,6 +77,12 @@ class Benches(Case):
     def test_library(self) -> None:
         built_library()
         self.assertEqual(rows(self.lines_of("library", "--rounds", "1")), CALLS)
+
+    def test_host(self) -> None:
+        found = self.lines_of("host", "--payments", "2000", "--kept", "1000", "--seconds", "1",
+                              path_of("dukpt"))
+        self.assertEqual(rows(found), HOST)
+        self.assertRegex("\n".join(found[-3:]), AFTER_A_KILL)
 
     def test_starts(self) -> None:
         found = self.lines_of("starts", "--rounds", "1", "--numbers", "10", path_of("dukpt"))

@@ -17,6 +17,7 @@ from .support.everyday_rows import BASE, IKSN, INITIAL, PAN, PIN, RIGHT, rows
 from .support.everyday_words import expected
 from .support.leaks import leaked, leaks, leaks_of_batch
 from .support.program import Ended
+from .support.weak_keys import ALL_WEAK, SEMI_WEAK, WEAK, WEAK_BITS, weakness
 from .test_everyday_references import secrets_of
 from .test_show import NEW_IMAGE
 
@@ -159,6 +160,27 @@ class OpenSsl(Case):
                 wanted += [f"{front}kcv {self.enciphered(key, bytes(8))[:3].hex().upper()}",
                            f"{front}cmac {self.cmac(key, bytes(8))[:10]}"]
             self.assertEqual(kcv_lines([key.hex() for key in keys], True, True), wanted)
+
+    def test_weak_keys(self) -> None:
+        """What is enciphered twice under a weak key is in clear again, and so under one of a pair and
+        the other. There are sixteen, whose parity is odd."""
+        self.assertEqual(len(WEAK_BITS), 16)
+        for one, other in (*((key, key) for key in WEAK), *SEMI_WEAK):
+            self.assertTrue(all(byte.bit_count() % 2 for byte in one + other))
+            clear = self.chance.randbytes(8)
+            self.assertEqual(self.enciphered(other, self.enciphered(one, clear)), clear)
+
+    def test_weakness(self) -> None:
+        """Of keys with equal halves one step undoes another, and one enciphering is left."""
+        for _ in range(20):
+            one, other = self.chance.randbytes(8), self.chance.randbytes(8)
+            clear = self.chance.randbytes(8)
+            for key, left in ((one + one, one), (one + one + other, other), (other + one + one, other)):
+                self.assertEqual(weakness(key), "halves")
+                self.assertEqual(self.enciphered(key, clear), self.enciphered(left, clear))
+            self.assertIsNone(weakness(one + other + one))
+            self.assertEqual(weakness(self.chance.choice(ALL_WEAK) + other), "DES")
+            self.assertEqual(weakness(bytes(byte & 1 for byte in one + other)), "zeros")
 
     def key_below(self, key: bytes, register: bytes) -> bytes:
         """The key of a node of the tree, from that of its parent."""

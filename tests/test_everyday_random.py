@@ -74,10 +74,10 @@ class TestEveryday(ProgramCase):
         self.play("kcv", "key refused", *(f"KEY: {it}" for it in READS))
 
     def test_mac(self) -> None:
-        self.play("mac", "key refused", "text refused", *(f"KEY: {it}" for it in READS))
+        self.play("mac", "key refused", "text refused", "TEXT: cannot read", *(f"KEY: {it}" for it in READS))
 
     def test_data(self) -> None:
-        self.play("data", "block refused", "key refused", "text refused",
+        self.play("data", "block refused", "key refused", "text refused", "TEXT: cannot read",
                   *(f"KEY: {it}" for it in READS))
 
     def test_pin(self) -> None:
@@ -106,7 +106,7 @@ class TestEveryday(ProgramCase):
 
     def test_find(self) -> None:
         self.play("find", *BASE_FAULTS, "WHAT refused", "TEXT refused", "PAN refused", "BLOCK refused",
-                  "KSN refused", "window refused", "not found", "WHAT: cannot read",
+                  "KSN refused", "window refused", "not found", "WHAT: cannot read", "TEXT: cannot read",
                   *(f"{it}: {why}" for why in READS for it in ("BDK", "PAN", "BLOCK")))
 
     def test_frames_under_keys(self) -> None:

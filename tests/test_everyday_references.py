@@ -16,7 +16,7 @@ from typing import Iterator, Optional, Sequence, Union
 from .support.case import ProgramCase
 from .support.everyday_rows import (
     BASE, FIRST as IKSN, KBPK, PAN, PIN, REPLY, REQUEST, RIGHT, SERIAL, ZONE, rows)
-from .support.everyday_words import COMMANDS, INPUTS, MOST_BYTES, expected, is_secret
+from .support.everyday_words import COMMANDS, INPUTS, MOST_BYTES, expected, is_secret, may_refer
 from .support.program import SECONDS, Ended, Word, spoken
 
 # A process of root reads any file but without these.
@@ -34,6 +34,10 @@ def names_of(command: str) -> Iterator[tuple[int, str]]:
         elif not word.startswith("--"):
             yield at, about.values[0 if about.is_many else place]
             place += 1
+
+
+def references_of(command: str) -> list[tuple[int, str]]:
+    return [(at, name) for at, name in names_of(command) if may_refer(name)]
 
 
 def secrets_of(command: str) -> list[tuple[int, str]]:
@@ -90,7 +94,7 @@ class References(ReferenceCase):
                 self.check(words, data)
                 words[at] = "@-"
                 self.is_as(self.run_with(words, data), words, {}, data)
-                if is_secret(command, name):
+                if may_refer(name):
                     wanted = expected(right)
                     self.assertEqual((self.run_with(words, data), wanted.status), (wanted, 0), words)
                 count += 1
@@ -281,7 +285,7 @@ class Order(ReferenceCase):
     def test_before_all_others(self) -> None:
         """One secret is a reference that is refused, and all else is wrong."""
         for command, right in RIGHT.items():
-            for place, (at, name) in enumerate(secrets_of(command)):
+            for place, (at, name) in enumerate(references_of(command)):
                 # But the kind of what is shown, on which its options depend.
                 wrong = [word if at_ == 0 or word.startswith("--") or word == "frame" else "x"
                          for at_, word in enumerate(right)]
@@ -295,7 +299,7 @@ class Order(ReferenceCase):
         """Of two references that are refused the first in the order of the help, options last."""
         (self.home / "long").write_bytes(LONG + b"0")
         for command, right in RIGHT.items():
-            secrets = secrets_of(command)
+            secrets = references_of(command)
             for one, (first, name) in enumerate(secrets):
                 for second, _ in secrets[one + 1 :]:
                     words = [*right]
@@ -343,5 +347,5 @@ class Order(ReferenceCase):
             is_value = False
             path = self.home / str(len(given))
             path.write_text(f"{word}\n", encoding="utf-8")
-            given.append(f"@{path}" if is_secret(command, name) else word)
+            given.append(f"@{path}" if may_refer(name) else word)
         return given

@@ -13,7 +13,7 @@ from .support.everyday_rows import BASE, FIRST, PAN, PIN, RIGHT, SERIAL
 from .support.everyday_rows import rows as everyday_rows
 from .support.explain_case import EXPLAIN, ExplainCase, places, rows, with_explain
 from .support.explained import (
-    CONSTANT, OF_ONE, OF_UNWRAP, REASONED, SHOWN, TEXTS, Asked, expected, explained)
+    CONSTANT, OF_ONE, OF_UNWRAP, REASONED, SHOWN, TEXTS, Asked, asked_by, expected, explained)
 from .support.leaks import leaks, leaks_of_batch
 from .support.program import COMMANDS, ROOT, Ended, Limits, spoken
 from .support.quick import QuickRuns
@@ -200,7 +200,7 @@ class Random(ExplainCase):
                 if wanted.status == 1 or self.chance.random() < 0.1:
                     self.check(runs, case, wanted)
                     tally[wanted.status] += 1
-        self.assertEqual(sorted(tally), [0, 1, 2], "not all statuses come")
+        self.assertLessEqual({0, 1, 2}, set(tally), "not all statuses come")
         self.tells(f"{tally[1]} faults, and {tally[0] + tally[2]} other runs")
 
     def test_shown(self) -> None:
@@ -308,9 +308,14 @@ class Items(ExplainCase):
             self.check(batch, "\n".join((*wrong, right, *wrong)).encode())
 
     def test_other_arguments(self) -> None:
-        """Wrong ones are explained of each item."""
+        """Wrong ones are explained as of the command alone."""
         for batch in WRONG:
-            self.check(batch, f"{PIN}\n{PAN}\n{SERIAL}\n\n".encode())
+            ended = self.run_with([EXPLAIN, *batch.words], f"{PIN}\n{PAN}\n{SERIAL}\n\n".encode())
+            why = batch.others()
+            given = everyday_words.Given([*batch.values], {*batch.flags}, {**batch.valued})
+            asked = asked_by(batch.command, given)
+            line = f"{why}\n{explained(asked, why)}\n".encode()
+            self.assert_ended(ended, 1, b"", line, spoken(batch.words))
 
     def test_as_alone(self) -> None:
         """The program itself explains the item as its argument with the same line."""
@@ -348,7 +353,7 @@ class Items(ExplainCase):
         line = b"BDK refused\nBDK: 4 bytes; wanted: 32 hexadecimal digits\n"
         for words, given in ((["derive", "@it", "-"], b""), (["derive", "@-", "-"], b"0123\n")):
             ended = self.run_with([EXPLAIN, *words], given + f"{SERIAL}\nx\n".encode())
-            self.assert_ended(ended, 1, 2 * line, ITEMS_REFUSED + self.line, spoken(words))
+            self.assert_ended(ended, 1, b"", line, spoken(words))
 
     def test_faults_before_items(self) -> None:
         self.explained(["derive", "@missing", "-"], "BDK: cannot read",

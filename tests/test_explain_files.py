@@ -12,7 +12,7 @@ from typing import Sequence
 
 from .support.bank import BANK, LONGEST
 from .support.client import payments
-from .support.everyday_rows import BASE, RIGHT, SERIAL
+from .support.everyday_rows import BASE, FIRST, RIGHT, SERIAL
 from .support.explain_case import EXPLAIN, ISSUE, SCRIPT, WITHOUT_RIGHTS, ExplainCase
 from .support.explained import (
     A_FOLDER, A_JOURNAL, A_LOG, A_NEW_FILE, IN_USE, MISSING, MOST_PATH, NO_FOLDER, NO_PERMISSION, OTHER,
@@ -25,7 +25,7 @@ from .support.page_journals import journal_of
 from .support.program import Ended, Limits, spoken
 from .support.service import Service
 from .support.small_files import PAGE, SmallFiles
-from .test_everyday_references import names_of, secrets_of
+from .test_everyday_references import names_of, references_of
 
 # Commands over a file whose name stands behind them, with the fault where it is not opened or read, and
 # what the explanation calls it.
@@ -83,6 +83,26 @@ class Refused(ExplainCase):
                      "\\x0A", "\u00a0", "./" * (MOST_PATH // 2 - 1) + "it", "./" * (MOST_PATH // 2) + "it"):
             self.refused(name, MISSING)
             self.refused_lock(name, MISSING)
+
+    def test_keys(self) -> None:
+        """A path that may be a key, a PIN or a PAN is told nowhere; one that cannot be one is."""
+        for key in (BASE, BASE.lower(), BASE[:16], BASE + BASE[:16]):
+            self.assertEqual(at_fault("BDK", f"@{key}"), "BDK")
+            self.refused(key, MISSING)
+            self.refused_lock(key, MISSING)
+            self.explained(["kcv", BASE, f"@{key}"], "KEY: cannot read", f"KEY 2: {MISSING}; wanted: {READABLE}")
+            self.write(key, b"it")
+            line = f"BDK: {len(key)} bytes; wanted: 32 hexadecimal digits"
+            if len(key) != 32:
+                self.explained(["derive", key, SERIAL], "BDK refused", line)
+            (self.home / key).unlink()
+        for digits in ("1234", "4012345678909", "0123456789012345678"):
+            self.assertEqual(at_fault("BDK", f"@{digits}"), "BDK")
+            self.refused(digits, MISSING)
+        for name in (BASE[:-1], BASE + "0", BASE[:-1] + "g", f"./{BASE}", BASE[8:16],
+                     "123", "0" * 20, BASE + BASE):
+            self.assertEqual(at_fault("BDK", f"@{name}"), f"BDK @{name}")
+            self.refused(name, MISSING)
 
     def test_a_read_that_fails(self) -> None:
         """It can be opened."""
@@ -170,7 +190,7 @@ class Refused(ExplainCase):
         self.explained(["derive", "@-", SERIAL], "BDK: cannot read", line, given=folder)
 
     def test_references_that_are_refused(self) -> None:
-        """Of several the first that is so when it is read once more; or else the first that is not."""
+        """Of several the one is explained that was not read, and none behind it that cannot be read either."""
         self.write("it", BASE.encode())
         self.write("end", b"0" * 4096 + b"\r\n")
         self.write("long", b"0" * 4097)
@@ -188,7 +208,9 @@ class Refused(ExplainCase):
             ):
                 self.explained(words, f"{called.split()[0]}: {fault}", f"{called} @{name}: {rest}")
             given = (self.home / name).read_bytes()
-            self.explained(["kcv", "@it", "@-", "@missing"], f"KEY: {fault}", f"KEY 2 @-: {rest}", given=given)
+            for last in ("@missing", f"@{name}"):
+                words = ["kcv", "@it", "@-", last]
+                self.explained(words, f"KEY: {fault}", f"KEY 2 @-: {rest}", given=given)
         self.explained(["derive", "@/dev/zero", SERIAL], "BDK: too long",
                        "BDK @/dev/zero: a longer line; wanted: at most 4096 bytes")
 
@@ -227,17 +249,18 @@ class Names(ExplainCase):
         return ended.faults.decode().splitlines()[1]
 
     def test_each_argument(self) -> None:
-        """Where there is such a file it is told of each that may be a reference, and of no other."""
+        """Where there is such a file it is told of each that may be a reference and is refused, and of no
+        other."""
         count = 0
         for command, right in RIGHT.items():
-            secrets = secrets_of(command)
+            secrets = references_of(command)
             for at, name in names_of(command):
                 words = [EXPLAIN, *right[:at], "it", *right[at + 1 :]]
                 self.write("it", b"it")
                 there = self.run_with(words)
                 (self.home / "it").unlink()
                 missing = self.run_with(words)
-                if (at, name) in secrets:
+                if (at, name) in secrets or (name == "TEXT" and missing.status == 1):
                     told = rf"\A(.*\n{name}(?: \d)?: 2 bytes), a file of that name is there: @it(; wanted: .*\n)\Z"
                     self.assertRegex(there.faults.decode(), told, spoken(words))
                     before, behind = re.findall(told, there.faults.decode())[0]
@@ -271,12 +294,51 @@ class Names(ExplainCase):
         self.assertNotIn("file of that name", self.told_of(["derive", "-", SERIAL]))
 
     def test_what_a_reference_holds(self) -> None:
-        """It is a text as any other one."""
+        """It is never told, also where it is itself the name of a file."""
+        self.write("other", b"")
+        rest = "wanted: 32 hexadecimal digits"
+        self.assertEqual(self.told_of(["derive", "other", SERIAL]),
+                         f"BDK: 5 bytes, a file of that name is there: @other; {rest}")
+        count = 0
+        for command, right in RIGHT.items():
+            for at, name in references_of(command):
+                self.write("it", b"other\n")
+                words = [*right[:at], "@it", *right[at + 1 :]]
+                for chosen, given in ((words, b""), ([*right[:at], "@-", *right[at + 1 :]], b"other\n")):
+                    ended = self.run_with([EXPLAIN, *chosen], given)
+                    self.assertEqual((ended.status, ended.output), (1, b""), spoken(chosen))
+                    told = ended.faults.decode().splitlines()[-1]
+                    self.assertRegex(told, rf"\A{name}(?: \d)?: 5 bytes(, wrong at \d)?; wanted: ", spoken(chosen))
+                    self.assertNotIn("other", told.partition("; wanted: ")[0], spoken(chosen))
+                    count += 1
+        self.tells(f"{count} references")
+
+    def test_several_references(self) -> None:
+        """Of several arguments of one name, and beside words that are no references."""
         self.write("it", b"other\n")
         self.write("other", b"")
-        for text in ("@it", "other"):
-            self.assertEqual(self.told_of(["derive", text, SERIAL]), "BDK: 5 bytes, a file of that name is "
-                             "there: @other; wanted: 32 hexadecimal digits")
+        rest = "wanted: 32 or 48 hexadecimal digits"
+        there = ", a file of that name is there: @other"
+        for words, line in ((["other", "@it"], f"KEY 1: 5 bytes{there}; {rest}"),
+                            (["@it", "other"], f"KEY 1: 5 bytes, wrong at 0; {rest}"),
+                            ([BASE, "@it", "other"], f"KEY 2: 5 bytes, wrong at 0; {rest}"),
+                            ([BASE, "other", "@it"], f"KEY 2: 5 bytes{there}; {rest}"),
+                            (["@it"], f"KEY: 5 bytes, wrong at 0; {rest}")):
+            self.assertEqual(self.told_of(["kcv", *words]), line, spoken(words))
+
+    def test_paths_and_numbers_that_references_hold(self) -> None:
+        """Nor is the path of a log, or a COUNT."""
+        for kind in ("log", "journal"):
+            self.write("it", b"missing\n")
+            self.assertEqual(self.told_of(["show", kind, "@it"]), f"WHAT: {MISSING}; wanted: {READABLE}")
+            self.assertEqual(self.told_of(["show", kind, "missing"]),
+                             f"WHAT missing: {MISSING}; wanted: {READABLE}")
+        words = ["issue", BASE, BASE, FIRST, "it", "--ledger", "ledger"]
+        self.write("it", b"700000\n")
+        last = "wanted: 1 to 421753, as many as are left in IKSN's key set"
+        for word, found in (("700000", "700000"), ("@it", "6 bytes")):
+            words[4] = word
+            self.assertEqual(self.told_of(words), f"COUNT: {found}; {last}")
 
 
 class Makers(ExplainCase):

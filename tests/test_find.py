@@ -11,14 +11,14 @@ from typing import Sequence
 
 from .support.case import ProgramCase
 from .support.commands import shown
-from .support.des import encrypt_block
+from .support.des import decrypt_block, encrypt_block
 from .support.dukpt import derive, serial_text
 from .support.everyday import NUMBERS, nth_counter
 from .support.everyday_rows import BASE, IKSN, PAN
 from .support.finding import MOST_NUMBERS, keys_of_number, progress_lines
 from .support.frames import write_request
 from .support.macs import cmac
-from .support.pin_blocks import pin_block
+from .support.pin_blocks import pin_block, pin_in
 from .support.program import spoken
 
 KEY = bytes.fromhex(BASE)
@@ -42,6 +42,13 @@ def made_at(place: int, kind: str) -> tuple[list[str], str]:
     }
     what, told, found = made[kind]
     return [shown(what), f"--{kind}", told], f"found {serial_text(number_at(place))} {found}\n"
+
+
+def is_by_chance(line: str, what: str) -> bool:
+    """Whether the key that a line tells deciphers this to a PIN block under the PAN."""
+    _, number, name = line.split()
+    key = dict(keys_of_number(derive(KEY, int(number, 16))))[name]
+    return pin_in(int.from_bytes(decrypt_block(key, bytes.fromhex(what)), "big"), PAN) is not None
 
 
 def progress_of(kind: str, most: int, numbers: int) -> list[str]:
@@ -72,8 +79,8 @@ class Find(FindCase):
     def test_the_last_number(self) -> None:
         """Without --window, and with as many as there may be, the last number is found, and none
         behind it."""
-        first = self.chance.randrange(NUMBERS - MOST_NUMBERS - 1)
         for kind in KINDS:
+            first = self.first_of(kind)
             words, line = made_at(first + MOST_NUMBERS - 1, kind)
             begun = ["--from", serial_text(number_at(first))]
             told = progress_of(kind, MOST_NUMBERS, MOST_NUMBERS)
@@ -86,6 +93,18 @@ class Find(FindCase):
             later = ["--from", serial_text(number_at(first + MOST_NUMBERS))]
             self.search([*words, *later, "--window", "1000"], "")
             self.tells(f"--{kind}: {MOST_NUMBERS / took:.0f} numbers a second")
+
+    def first_of(self, kind: str) -> int:
+        """The first of as many numbers as there may be, of which the last alone has a key that made what
+        is sought. A PIN block deciphers by chance to another one in one search of 28: then others do."""
+        while True:
+            first = self.chance.randrange(NUMBERS - MOST_NUMBERS - 1)
+            words, line = made_at(first + MOST_NUMBERS - 1, kind)
+            if kind != "pan":
+                return first
+            found = self.program.run("find", BASE, *words, "--from", serial_text(number_at(first)))
+            if found.output == line.encode() or not is_by_chance(found.output.decode(), words[0]):
+                return first
 
     def test_one_behind_the_window(self) -> None:
         first = self.chance.randrange(NUMBERS - MOST_NUMBERS - 1)

@@ -282,7 +282,7 @@ class Random(IssueCase):
         about = WORDS["issue"]
         try:
             given = read(case.words[1:], about)
-            resolve("issue", about, given, References(case.files, case.given))
+            resolve(about, given, References(case.files, case.given))
             keys, first, count = asked(*given.values, given.valued.get("bdk-kcv"))
         except ArgumentsRefused as why:
             return [], f"error: {why}", None, 0

@@ -25,7 +25,7 @@ PLANTED: Sequence[tuple[str, Sequence[Edit], Sequence[str], str]] = (
     # A length.
     ("calls.rs", [(SPAN, "bytes.as_ptr(), bytes.len().min(16),")], CASES, "panicked"),
     ("bytes.rs", [("let length = count as usize;", "let length = (count as usize).min(50);")],
-     CASES, "wrap 0"),
+     CASES, "panicked"),
     ("secret.rs", [("length: count as usize }", "length: N }")], CASES, "unwrap 0"),
     ("blocks.rs", [("let wanted = u32::try_from(N).unwrap_or(0);", "let wanted = 16;")], CASES,
      "unwrap_for "),

@@ -16,11 +16,14 @@ Items = list[Union[Function, Enumeration]]
 CRATES = ROOT / "crates"
 # Functions that make the fault of nothing: a call of one is judged as a making.
 MAKERS = {
+    "dukpt/src/arguments.rt refuse_memory": "reports it where the arguments could not be read or copied for it",
     "duk_play/src/session.rt write_done": "writes the lines of the events before the refusal",
     "duk_script/src/session.rt write_done": "writes the lines of the events before the refusal",
 }
 # Where the fault is made for another reason.
 ALLOWED = {
+    "dukpt/src/as_json/faults.rt said_object": "a fault has a line, and of none that was taken there was no memory"
+                                               " to keep it",
     "dukpt_player/src/run.rt tell": "lines that are kept in memory are not written where it is refused, and"
                                     " the kit's `format!` fails for nothing else",
 }

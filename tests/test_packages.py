@@ -21,7 +21,7 @@ DOCUMENTS = {
     "dukpt": ("COMMANDS.md", "DECISIONS.md", "DEPLOYMENT.md", "FORMATS.md", "GLOSSARY.md",
               "LIBRARY.md", "OPERATION.md", "PERFORMANCE.md", "PROVED.md", "RECIPES.md",
               "SECURITY.md", "TESTED.md", "calls.txt"),
-    "libdukpt0": (), "libdukpt-dev": OF_LIBRARY, "python3-dukpt": OF_LIBRARY,
+    "dukpt-host": (), "libdukpt0": (), "libdukpt-dev": OF_LIBRARY, "python3-dukpt": OF_LIBRARY,
 }
 # The mode, the path, and the file of the repository whose bytes it has, where it has those of one.
 FILES = {
@@ -47,6 +47,12 @@ FILES = {
 644 usr/share/doc/dukpt/docs/pictures/reversal.svg docs/pictures/reversal.svg
 644 usr/share/doc/dukpt/examples/haproxy.cfg share/deploy/haproxy.cfg
 """,
+    "dukpt-host": """
+755 usr/bin/dukpt-host share/host/dukpt-host
+644 usr/lib/systemd/system/dukpt-host.service share/deploy/dukpt-host.service
+644 usr/lib/systemd/system/dukpt-host.socket share/deploy/dukpt-host.socket
+644 usr/share/man/man1/dukpt-host.1.gz share/man/dukpt-host.1
+""",
     "libdukpt0": f"""
 644 {LIBRARIES}/libdukpt.so.0
 """,
@@ -64,6 +70,8 @@ FILES = {
 CONTROL = {
     "dukpt": {"control": 0o644, "md5sums": 0o644, "postinst": 0o755, "prerm": 0o755,
               "postrm": 0o755},
+    "dukpt-host": {"control": 0o644, "md5sums": 0o644, "postinst": 0o755, "prerm": 0o755,
+                   "postrm": 0o755},
     "libdukpt0": {"control": 0o644, "md5sums": 0o644, "shlibs": 0o644, "symbols": 0o644,
                   "triggers": 0o644},
     "libdukpt-dev": {"control": 0o644, "md5sums": 0o644},
@@ -91,6 +99,8 @@ def wanted_files(package: str) -> Iterator[tuple[int, str, str]]:
     yield from ((0o644, f"{doc}/docs/{it}", "") for it in DOCUMENTS[package])
     if package == "dukpt":
         yield from of_folder(f"{doc}/examples", "examples", (".toml", ".script", ".out"))
+    elif package == "dukpt-host":
+        yield from of_folder(f"{MODULES}/dukpt_host", "share/host/dukpt_host", (".py",))
     elif package == "libdukpt-dev":
         # Which pages there are, and what is in them, is seen elsewhere.
         calls = re.findall(r"^    (dukpt_\w+);$", (ROOT / "library/c/dukpt.map").read_text(), re.M)

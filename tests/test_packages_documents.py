@@ -134,7 +134,8 @@ class Records(PackageCase):
                  "Kit": kit})
             logic = kit.rpartition(" ")[2]
             self.assertEqual(found["Proof"], "none" if name == "dukpt" else {
-                "python3-dukpt": f"none of its modules; of the library that they call: proved, logic {logic}"
+                "python3-dukpt": f"none of its modules; of the library that they call: proved, logic {logic}",
+                "dukpt-host": "none of its modules; of the program that they start: none"
             }.get(name, f"proved, logic {logic}"))
 
     def test_tree(self) -> None:
@@ -159,6 +160,8 @@ class Records(PackageCase):
                    if it.suffix == ".py" or it.name == "py.typed"}
         wanted: dict[str, Mapping[str, Path]] = {
             "dukpt": {"dukpt": self.program, "page/dukpt.html": ROOT / "page/dukpt.html"},
+            "dukpt-host": {f"share/host/dukpt_host/{it.name}": it
+                           for it in (self.root / "share/host/dukpt_host").glob("*.py")},
             "libdukpt0": {"libdukpt.so.0": of_library["libdukpt.so.0"]},
             "libdukpt-dev": {name: path for name, path in of_library.items()
                              if name != "libdukpt.so.0"},

@@ -16,7 +16,7 @@ from .support.program import ROOT, Ended
 from .support.service_case import numbers_of
 from .support.system_root import SystemRoot
 
-NAMES = ("libdukpt0", "libdukpt-dev", "python3-dukpt", "dukpt")
+NAMES = ("libdukpt0", "libdukpt-dev", "python3-dukpt", "dukpt-host", "dukpt")
 BDK, KSN = "0123456789ABCDEFFEDCBA9876543210", "FFFF9876543210E00001"
 EXAMPLES_IN_C = "/usr/share/doc/libdukpt-dev/examples"
 EXAMPLES_IN_PYTHON = "/usr/share/doc/python3-dukpt/examples"

@@ -21,8 +21,8 @@ from .support.releases import (
 
 # The ports of crates of Rust that README.md names are linked into the program, but for one that an
 # example alone uses; and what the kit has the terms of.
-PORTS = {"arrayvec", "byteorder", "circular_buffer", "clap", "hex", "indexmap", "itoa", "thiserror",
-         "toml"}
+PORTS = {"arrayvec", "byteorder", "circular_buffer", "clap", "hex", "indexmap", "itoa", "json",
+         "thiserror", "toml"}
 LICENCES = {"arrayvec": "MIT OR Apache-2.0", "byteorder": "MIT", "circular_buffer": "BSD-3-Clause",
             "clap": "MIT OR Apache-2.0", "hex": "MIT OR Apache-2.0", "std": "NOASSERTION"}
 # Files in the folders that are packed, in folders and with names that git ignores.

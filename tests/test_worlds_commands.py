@@ -33,6 +33,11 @@ def key_word(chance: random.Random, *lengths: int) -> str:
     return written(chance, chance.randbytes(chance.choice(lengths)).hex())
 
 
+def plain(word: str) -> str:
+    """The word, of which no reference comes by chance: one begins with @."""
+    return f"A{word[1:]}" if word.startswith("@") else word
+
+
 def serial_word(chance: random.Random, counters: Iterable[int]) -> str:
     serial = chance.randrange(1 << 80) // SPENT * SPENT + chance.choice(tuple(counters))
     word = serial_text(serial)
@@ -126,7 +131,7 @@ class TestWords(ProgramCase):
         printed = "".join(map(chr, chance.choices(range(0x20, 0x7F), k=7)))
         wrong = (printed[1:], printed + "0", "", "\x1f" + printed[1:], printed[:-1] + "\x7f",
                  printed[:-2] + "\u00e9")
-        return chance.choice(wrong) if one_in(chance, 5) else printed
+        return plain(chance.choice(wrong) if one_in(chance, 5) else printed)
 
     def try_wrap(self, fields: str) -> None:
         chance = self.chance
@@ -163,4 +168,4 @@ class TestWords(ProgramCase):
         """A protection key, and a key block under it that may be spoiled."""
         protection = self.chance.randbytes(self.chance.choice((16, 24)))
         text = spoiled_key_block(self.chance, key_block(self.chance, protection))
-        return written(self.chance, shown(protection)), text.decode()
+        return written(self.chance, shown(protection)), plain(text.decode())

@@ -163,7 +163,8 @@ fn only_path(word: &Path) -> Outcome<PathBuf> {
     let folder = fs::canonicalize(folder_of(word)).map_err(|why| described(&why))?;
     let path = folder.join(name);
     match fs::symlink_metadata(&path) {
-        Ok(known) if known.is_file() && known.nlink() == 1 => Ok(path),
+        // It has no name any more where another terminal has just stored its own in that place.
+        Ok(known) if known.is_file() && known.nlink() <= 1 => Ok(path),
         Ok(_) => Err(described(&TEXT).into()),
         Err(why) if why.kind() == ErrorKind::NotFound => Ok(path),
         Err(why) => Err(described(&why).into()),

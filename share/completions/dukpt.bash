@@ -3,31 +3,31 @@
 # What may stand after each command. A word in capitals is a value's name, with two dots where several
 # may stand. The test bench compares these arguments with the program's help.
 declare -gA _dukpt_arguments=(
-    [derive]="BDK KSN --initial --trace --all --explain -h --help"
-    [walk]="BDK IKSN COUNT --skip=K --ksn --initial --explain -h --help"
-    [initial]="BDK IKSN --explain -h --help"
-    [issue]="BDK LOADING IKSN COUNT --ledger=FILE --bdk-kcv=KCV --out=FILE --skip-issued --again --explain -h --help"
-    [registers]="BDK KSN --initial --explain -h --help"
-    [kcv]="KEY.. --components --show --explain -h --help"
-    [mac]="KEY TEXT --cmac --hex --explain -h --help"
-    [data]="KEY TEXT --iv=BLOCK --decipher --hex --explain -h --help"
-    [pin]="PIN PAN --key=KEY --explain -h --help"
-    [unpin]="BLOCK PAN --key=KEY --show --explain -h --help"
-    [translate]="BLOCK PAN BDK KSN ZONE --initial --explain -h --help"
-    [wrap]="KBPK FIELDS KEY PAD --explain -h --help"
-    [unwrap]="KBPK BLOCK --explain -h --help"
-    [show]="KIND WHAT --show --key=BDK --initial --explain -h --help"
-    [request]="BDK KSN PAN PIN AMOUNT --reverse=NUMBER --initial --explain -h --help"
-    [reply]="BDK REQUEST ANSWER --initial --explain -h --help"
-    [find]="BDK WHAT --from=KSN --window=N --text=TEXT --hex --pan=PAN --clear=BLOCK --initial --explain -h --help"
+    [derive]="BDK KSN --initial --trace --all --explain --json --progress -h --help"
+    [walk]="BDK IKSN COUNT --skip=K --ksn --initial --explain --json --progress -h --help"
+    [initial]="BDK IKSN --explain --json --progress -h --help"
+    [issue]="BDK LOADING IKSN COUNT --ledger=FILE --bdk-kcv=KCV --out=FILE --skip-issued --again --explain --json --progress -h --help"
+    [registers]="BDK KSN --initial --explain --json --progress -h --help"
+    [kcv]="KEY.. --components --show --explain --json --progress -h --help"
+    [mac]="KEY TEXT --cmac --hex --explain --json --progress -h --help"
+    [data]="KEY TEXT --iv=BLOCK --decipher --hex --explain --json --progress -h --help"
+    [pin]="PIN PAN --key=KEY --explain --json --progress -h --help"
+    [unpin]="BLOCK PAN --key=KEY --show --explain --json --progress -h --help"
+    [translate]="BLOCK PAN BDK KSN ZONE --initial --explain --json --progress -h --help"
+    [wrap]="KBPK FIELDS KEY PAD --explain --json --progress -h --help"
+    [unwrap]="KBPK BLOCK --explain --json --progress -h --help"
+    [show]="KIND WHAT --show --key=BDK --initial --explain --json --progress -h --help"
+    [request]="BDK KSN PAN PIN AMOUNT --reverse=NUMBER --initial --explain --json --progress -h --help"
+    [reply]="BDK REQUEST ANSWER --initial --explain --json --progress -h --help"
+    [find]="BDK WHAT --from=KSN --window=N --text=TEXT --hex --pan=PAN --clear=BLOCK --initial --explain --json --progress -h --help"
     [run]="CONFIG SCRIPT --journal --explain -h --help"
     [serve]="CONFIG --log=FILE --journal=FILE --explain -h --help"
-    [new-log]="FILE RECORDS --explain -h --help"
-    [new-journal]="FILE RECORDS --explain -h --help"
-    [copy-journal]="OLD NEW --explain -h --help"
+    [new-log]="FILE RECORDS --explain --json --progress -h --help"
+    [new-journal]="FILE RECORDS --explain --json --progress -h --help"
+    [copy-journal]="OLD NEW --explain --json --progress -h --help"
     [help]="COMMAND"
 )
-_dukpt_options="--explain -h --help -V --version"
+_dukpt_options="--explain --json --progress -h --help -V --version"
 
 # Which value the last of these words is; nothing where it is none.
 _dukpt_value() {
@@ -65,8 +65,10 @@ _dukpt() {
     # Bash cuts its own words at = and @. The dot stands for the cursor.
     read -ra words <<<"${COMP_LINE:0:COMP_POINT}."
     words[-1]=${words[-1]%.}
-    # It may stand before the command too.
-    [[ ${words[1]} == --explain && ${#words[@]} -gt 2 ]] && words=("${words[0]}" "${words[@]:2}")
+    # These may stand before the command too.
+    while [[ ${words[1]} =~ ^--(explain|json|progress)$ && ${#words[@]} -gt 2 ]]; do
+        words=("${words[0]}" "${words[@]:2}")
+    done
     word=${words[-1]}
     if ((${#words[@]} == 2)); then
         offered="${!_dukpt_arguments[*]} $_dukpt_options"

@@ -11,6 +11,9 @@ from .everyday_words import Given, lines_of
 from .explained import asked_by, explained
 from .program import Ended
 
+# Items of the right form, by the place of `-`.
+RIGHT_ITEMS = {"derive": ("", "FFFF9876543210E00001"), "pin": ("1234", "4012345678909"),
+               "unwrap": ("", "")}
 MOST_ITEM = 16_384
 LINE_REFUSED = b"line refused\n"
 ITEMS_REFUSED = b"batch: items refused\n"
@@ -45,6 +48,17 @@ class Batch:
         values[values.index("-")] = item
         return Given(values, set(self.flags), dict(self.valued))
 
+    def others(self) -> str:
+        """The fault of what the command has beside its items, or nothing. It is that of any item."""
+        right = RIGHT_ITEMS.get(self.command)
+        if right is None:
+            return ""
+        try:
+            lines_of(self.command, self.alone(right[self.values.index("-")]))
+        except Refused as why:
+            return "" if self.command == "unwrap" and str(why) != "KBPK refused" else str(why)
+        return ""
+
     def answer(self, line: bytes) -> tuple[bytes, bool]:
         """The answer to a line, and whether its item is refused."""
         try:
@@ -68,7 +82,10 @@ class Batch:
         return [self.answer(line) for line in lines_in(data)]
 
     def ended(self, data: bytes) -> Ended:
-        """How a run ends whose input this is."""
+        """How a run ends whose input this is. What the command has beside its items comes first."""
+        fault = self.others()
+        if fault:
+            return Ended(1, b"", f"{fault}\n".encode())
         answers = self.answers(data)
         is_refused = any(refused for _, refused in answers)
         return Ended(int(is_refused), b"".join(text for text, _ in answers),

@@ -21,6 +21,7 @@ from .frames import (
     read_reversal, read_reversal_reply, write_request, write_reversal)
 from .macs import cmac, retail_mac
 from .pin_blocks import PAN_LENGTHS, PIN_LENGTHS, pin_block, pin_in
+from .weak_keys import weakness
 
 MOST_ONES = 10
 MOST_AMOUNT = 4_294_967_295
@@ -161,12 +162,17 @@ def registers_lines(base: str, number: str, initial: bool = False) -> list[str]:
 def kcv_lines(words: Sequence[str], components: bool = False, show: bool = False) -> list[str]:
     keys = [hexadecimal(word, DOUBLE_OR_TRIPLE, "key") for word in words]
     if not components:
-        return [line for key in keys for line in values_of(key, "")]
+        return [line for key in keys for line in key_lines(key)]
     if len(set(map(len, keys))) > 1:
         raise Refused("key refused")
     key = reduce(lambda one, other: bytes(a ^ b for a, b in zip(one, other)), keys)
     lines = [line for part in keys for line in values_of(part, "component-")]
-    return [*lines, *([f"key {shown(key)}"] if show else []), *values_of(key, "")]
+    return [*lines, *([f"key {shown(key)}"] if show else []), *key_lines(key)]
+
+
+def key_lines(key: bytes) -> list[str]:
+    why = weakness(key)
+    return [*values_of(key, ""), *([] if why is None else [f"weak {why}"])]
 
 
 def values_of(key: bytes, front: str) -> list[str]:
@@ -175,7 +181,7 @@ def values_of(key: bytes, front: str) -> list[str]:
 
 def mac_lines(word: str, text: str, is_cmac: bool = False, hex_: bool = False) -> list[str]:
     key = hexadecimal(word, DOUBLE_OR_TRIPLE if is_cmac else DOUBLE, "key")
-    data = text.encode()
+    data = text.encode(errors="surrogateescape")
     if hex_:
         data = hexadecimal(text, (len(text) // 2 * 2,), "text")
     if not (data or is_cmac):
@@ -190,7 +196,7 @@ def data_lines(word: str, text: str, iv: Optional[str] = None, decipher: bool = 
                hex_: bool = False) -> list[str]:
     before = bytes(8) if iv is None else hexadecimal(iv, BLOCK, "block")
     key = hexadecimal(word, DOUBLE_OR_TRIPLE, "key")
-    data = text.encode()
+    data = text.encode(errors="surrogateescape")
     if hex_ or decipher:
         data = hexadecimal(text, (len(text) // 2 * 2,), "text")
     if len(data) not in DATA_LENGTHS:

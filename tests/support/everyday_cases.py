@@ -10,7 +10,7 @@ from .des import encrypt_block
 from .dukpt import (
     COUNTER_BITS, SPENT, counter_of, derive, iksn_of, key_of, pin_key, serial_text)
 from .everyday import NUMBERS, nth_counter
-from .everyday_words import COMMANDS, MOST_BYTES, MOST_KEYS, is_secret
+from .everyday_words import COMMANDS, MOST_BYTES, MOST_KEYS, may_refer
 from .finding import keys_of_number
 from .frames import (
     CODES, NO_NUMBER, REASONS, STATES, write_refusal, write_reply, write_request, write_reversal,
@@ -18,6 +18,7 @@ from .frames import (
 from .key_blocks import wrap
 from .macs import cmac, retail_mac
 from .pin_blocks import pin_block
+from .weak_keys import weak_key
 from .worlds import digits
 
 # Counters that are not usable, and the last ones that are.
@@ -25,7 +26,8 @@ COUNTERS = (0, 0x7FF, 0x1FFFFF, 0x1FFC00, 1, 0x7FE, 0x1FF800, 1 << COUNTER_BITS 
 NO_COUNTS = ("", "x", "1x", "-", "0x1", "1048577", "99999999999999999999", " 1", "\u0661", "1.0")
 # Words that are neither keys nor numbers, frames or texts of digits.
 NOTHINGS = ("", "g", "zz", "0", "00", "\u00e9" * 8, "12 34", "0x" + "1" * 30, "nothing")
-TEXTS = ("", "a", "4012345678909D987", "\u20ac 5,00", " ", "@", "@-", "@missing", "00", "0g", "0a0")
+TEXTS = ("", "a", "4012345678909D987", "\u20ac 5,00", " ", "@", "@-", "@missing", "@@", "@@-", "@@@it",
+         "00", "0g", "0a0")
 
 
 @dataclass
@@ -148,11 +150,26 @@ class Draw:
 
     def referred(self, case: Case, command: str, name: str, word: str) -> str:
         """A secret in a file or on standard input, now and then."""
-        if not is_secret(command, name) or not self.one_in(4):
+        if name == "TEXT" and not word.startswith(("@", "-")) and self.one_in(3):
+            return self.referred_text(case, word)
+        if not may_refer(name) or not self.one_in(4):
             return word
         data = self.file_of(word.encode())
         if self.one_in(4):
             case.given = case.given or data
+            return "@-"
+        path = f"{self.folder}/{len(case.files)}"
+        if self.one_in(8):
+            return f"@{path}.missing"
+        case.files[path] = data
+        return f"@{path}"
+
+    def referred_text(self, case: Case, word: str) -> str:
+        """A TEXT in a file or on standard input, behind the line of another argument if one is there."""
+        data = word.encode() if not self.one_in(4) else self.chance.randbytes(self.chance.choice((0, 8, 24)))
+        if self.one_in(3):
+            front = case.given if case.given.endswith(b"\n") else b""
+            case.given = front + data if front or not case.given else case.given
             return "@-"
         path = f"{self.folder}/{len(case.files)}"
         if self.one_in(8):
@@ -195,7 +212,13 @@ class Draw:
     def kcv(self) -> Case:
         count = self.chance.choice((1, 1, 2, 3, MOST_KEYS, self.chance.randint(1, MOST_KEYS)))
         sizes = self.chance.choice(((16,), (24,), (16, 24)))
-        return self.case("kcv", *(self.key(*sizes)[1] for _ in range(count)))
+        return self.case("kcv", *(self.checked_key(*sizes) for _ in range(count)))
+
+    def checked_key(self, *sizes: int) -> str:
+        """A word for a key, which is often weak."""
+        if self.one_in(3):
+            return self.written(weak_key(self.chance, self.chance.choice(sizes)).hex())
+        return self.key(*sizes)[1]
 
     def mac(self) -> Case:
         data = self.chance.randbytes(self.chance.choice((0, 1, 7, 8, 9, 16, 23, 64, 600)))
@@ -385,6 +408,19 @@ class Draw:
     def wrap_case(self) -> Case:
         return self.case("wrap", self.key(16, 24)[1], "P0TE00E", self.key(16, 24)[1],
                          self.written(self.chance.randbytes(6).hex()))
+
+    def key_block(self, protection: bytes) -> str:
+        """A key block under this key, or now and then under another one, or almost a key block."""
+        chance = self.chance
+        if self.one_in(12):
+            protection = chance.randbytes(chance.choice((16, 24)))
+        fields, key = bytes(chance.choices(range(0x20, 0x7F), k=7)), chance.randbytes(chance.choice((16, 24)))
+        text = wrap(protection, fields, key, chance.randbytes(6)).decode()
+        if self.one_in(8):
+            at = chance.randrange(len(text))
+            text = chance.choice((text[:at], text[:at] + chance.choice("0Ag ~") + text[at + 1 :],
+                                  text[:at] + text[at + 1 :], text + text[at:]))
+        return text
 
     def unwrap_case(self) -> Case:
         (protection, word), (key, _) = self.key(16, 24), self.key(16, 24)

@@ -1,7 +1,7 @@
 """How the program has to end on arguments of the commands over keys and PINs, by docs/COMMANDS.md:
 its status, its output and its faults, to the letter.
 
-First the arguments are read as such; then the references to secrets, each in its turn; then the
+First the arguments are read as such; then the references, each in its turn; then the
 command does its work, by `everyday` and `commands`. Of arguments that are refused as such, whose text
 is of `clap`, only the first line is known here.
 """
@@ -23,6 +23,8 @@ Files = Mapping[str, bytes]
 Lines = Callable[..., list[str]]
 
 MOST_BYTES = 4096
+# The most bytes of a TEXT that is a file, or standard input.
+MOST_MESSAGE = 1 << 24
 MOST_KEYS = 16
 # Arguments and values of options that are secrets.
 SECRETS = {"BDK", "KBPK", "LOADING", "PIN", "PAN", "ZONE"}
@@ -120,8 +122,18 @@ COMMANDS = {
 HANDED = {"all": "all_", "hex": "hex_", "cmac": "is_cmac", "from": "from_"}
 
 
+# Arguments that are not the first line of a reference: a word of the program's, a text of any bytes,
+# names of files.
+NEVER_REFERENCES = {"KIND", "TEXT", "FILE"}
+
+
 def is_secret(command: str, name: str) -> bool:
     return name in SECRETS or name in OF_COMMANDS.get(command, ())
+
+
+def may_refer(name: str) -> bool:
+    """Whether an argument may be a reference."""
+    return name not in NEVER_REFERENCES
 
 
 class ArgumentsRefused(Exception):
@@ -216,22 +228,39 @@ INPUTS = ("@-", "@/dev/stdin", "@/dev/fd/0", "@/proc/self/fd/0")
 
 
 class References:
-    """Reads what references name; standard input once."""
+    """Reads what references name; a line of standard input once, and then all that is left of it."""
 
     def __init__(self, files: Files, given: bytes) -> None:
         self.files = files
         self.given: Optional[bytes] = given
+        self.left = given
 
     def text(self, name: str, word: str) -> str:
         if not word.startswith("@"):
             return word
         if word in INPUTS:
             data, self.given = self.given, None
+            self.left = self.left.partition(b"\n")[2]
         else:
             data = self.files.get(word[1:])
         if data is None:
             raise Refused(f"{name}: cannot read")
         return first_line(name, data)
+
+
+    def message(self, word: str) -> str:
+        """What TEXT stands for: all bytes of a file, or what is left of standard input, as a text whose
+        bytes they are. Behind a second @ it is the word itself."""
+        if not word.startswith("@"):
+            return word
+        data = self.left if word in INPUTS else self.files.get(word[1:])
+        if word.startswith("@@"):
+            return word[1:]
+        if data is None:
+            raise Refused("TEXT: cannot read")
+        if len(data) > MOST_MESSAGE:
+            raise Refused("TEXT: too long")
+        return data.decode(errors="surrogateescape")
 
 
 def first_line(name: str, data: bytes) -> str:
@@ -247,15 +276,20 @@ def first_line(name: str, data: bytes) -> str:
         raise Refused(f"{name}: not UTF-8") from None
 
 
-def resolve(name: str, command: Command, given: Given, references: References) -> None:
+def resolve(command: Command, given: Given, references: References) -> None:
     """Puts texts in the place of references: of the values in their order, then of the options."""
     for at, word in enumerate(given.values):
         called = command.values[0 if command.is_many else at]
-        if is_secret(name, called):
+        if may_refer(called):
             given.values[at] = references.text(called, word)
     for option, called in command.valued.items():
-        if option in given.valued and is_secret(name, called):
+        if option in given.valued and may_refer(called):
             given.valued[option] = references.text(called, given.valued[option])
+    if "TEXT" in command.values:
+        at = command.values.index("TEXT")
+        given.values[at] = references.message(given.values[at])
+    if "text" in given.valued:
+        given.valued["text"] = references.message(given.valued["text"])
 
 
 # The whole
@@ -277,8 +311,9 @@ def expected(words: Sequence[str], files: Optional[Files] = None, given: bytes =
     except ArgumentsRefused as why:
         return Ended(2, b"", f"error: {why}\n".encode())
     try:
-        resolve(name, COMMANDS[name], said, References(files or {}, given))
+        resolve(COMMANDS[name], said, References(files or {}, given))
         lines = lines_of(name, said)
     except Refused as why:
         return Ended(1, b"", f"{why}\n".encode())
-    return Ended(0, "".join(f"{line}\n" for line in lines).encode(), b"")
+    status = 3 if name == "reply" and lines[0].startswith("refused ") else 0
+    return Ended(status, "".join(f"{line}\n" for line in lines).encode(), b"")

@@ -14,7 +14,7 @@ from typing import Mapping, Optional, Sequence
 from . import everyday_words
 from .commands import MOST_COUNT, Refused
 from .everyday_words import (
-    COMMANDS, INPUTS, Files, Given, References, first_line, is_secret, resolve)
+    COMMANDS, INPUTS, Files, Given, References, may_refer, resolve)
 from .issuing import numbers_left
 from .program import Ended
 from .shown import log_numbers
@@ -38,8 +38,9 @@ A_JOURNAL = "a journal, as new-journal makes one, that no other uses"
 A_NEW_FILE = "a name that no file has, in a folder with room"
 BEFORE_16 = "write FFFF before it"
 COUNTER_BITS = 21
-# A longer path is not told.
+# A longer path is not told, and none that may be a key of 8, 16 or 24 bytes, a PIN or a PAN.
 MOST_PATH = 512
+LIKE_A_SECRET = re.compile("([0-9A-Fa-f]{16}){1,3}|[0-9]{4,19}")
 
 
 @dataclass(frozen=True)
@@ -56,12 +57,14 @@ class Facts:
 
 @dataclass(frozen=True)
 class Asked:
-    """A command with its arguments, by their names; those of which there may be many stand apart."""
+    """A command with its arguments, by their names; those of which there may be many stand apart. The names
+    of those that were references stand there too."""
 
     command: str
     texts: Mapping[str, str] = field(default_factory=dict)
     keys: Sequence[str] = ()
     flags: frozenset[str] = frozenset()
+    read: frozenset[str] = frozenset()
 
 
 @dataclass(frozen=True)
@@ -78,8 +81,10 @@ class Explanation:
 
 
 def told_path(path: str) -> str:
-    """A path as it is told: control characters as `\\x` and two digits, and nothing of a long one."""
-    if len(path.removeprefix("@").encode()) > MOST_PATH:
+    """A path as it is told: control characters as `\\x` and two digits, and nothing of a long one, or of one
+    that may be a secret."""
+    alone = path.removeprefix("@")
+    if not alone or len(alone.encode()) > MOST_PATH or LIKE_A_SECRET.fullmatch(alone):
         return ""
     return "".join(f"\\x{ord(it):02X}" if unicodedata.category(it) == "Cc" else it for it in path)
 
@@ -195,14 +200,14 @@ def of_iksn(asked: Asked) -> Explanation:
 
 def of_count(asked: Asked) -> Explanation:
     if asked.command == "issue":
-        return of_issued_count(asked.texts["COUNT"], int(asked.texts["IKSN"], 16))
+        return of_issued_count(asked.texts["COUNT"], int(asked.texts["IKSN"], 16), "COUNT" in asked.read)
     name = "K" if is_count(asked.texts["COUNT"]) else "COUNT"
     return Explanation(name, found_in(asked.texts[name], DECIMAL), "a number up to 1048576")
 
 
-def of_issued_count(text: str, iksn: int) -> Explanation:
-    """It is no secret, and told as it stands where it is a number of at most 20 digits."""
-    found = text if re.fullmatch("[0-9]{1,20}", text) else found_in(text, DECIMAL)
+def of_issued_count(text: str, iksn: int, is_read: bool) -> Explanation:
+    """It is no secret, and told as it stands where it is a number of at most 20 digits, and no reference."""
+    found = text if re.fullmatch("[0-9]{1,20}", text) and not is_read else found_in(text, DECIMAL)
     return Explanation("COUNT", found,
                        f"1 to {numbers_left(iksn)}, as many as are left in IKSN's key set")
 
@@ -226,6 +231,14 @@ def of_keys(keys: Sequence[str]) -> Explanation:
 
 
 def of_message(asked: Asked) -> Explanation:
+    """Of a text that refers to other bytes these are not told."""
+    if "TEXT" in asked.read:
+        untold = replace(asked, texts={**asked.texts, "TEXT": ""})
+        return replace(of_own_message(untold), found="other bytes")
+    return of_own_message(asked)
+
+
+def of_own_message(asked: Asked) -> Explanation:
     if asked.command == "data":
         return of_data(asked)
     if "hex" in asked.flags:
@@ -347,6 +360,8 @@ def of_reference(fault: str, facts: Facts) -> Optional[Explanation]:
     if not found:
         return None
     name, why = found.groups()
+    if (name, why) == ("TEXT", "too long"):
+        return Explanation(name, "more bytes", "at most 16777216 bytes")
     return {"cannot read": Explanation(name, facts.reason, READABLE),
             "too long": Explanation(name, "a longer line", "at most 4096 bytes"),
             "not UTF-8": Explanation(name, "other bytes", "a line of UTF-8")}[why]
@@ -473,41 +488,33 @@ def secret_words(name: str, given: Given) -> list[tuple[str, str]]:
     words = [(command.values[0 if command.is_many else at], word) for at, word in enumerate(given.values)]
     words += [(called, given.valued[option]) for option, called in command.valued.items()
               if option in given.valued]
-    return [(called, word) for called, word in words if is_secret(name, called)]
+    return [(called, word) for called, word in words if may_refer(called)]
 
 
-def fault_of_file(data: Optional[bytes]) -> str:
-    """Why the first line of a file is not read, or nothing."""
-    if data is None:
-        return "cannot read"
-    try:
-        first_line("", data)
-    except Refused as why:
-        return str(why).removeprefix(": ")
-    return ""
+def message_in(name: str, given: Given) -> str:
+    """The word of TEXT; empty where there is none."""
+    values = dict(zip(COMMANDS[name].values, given.values))
+    return values.get("TEXT", given.valued.get("text", ""))
 
 
-def facts_of_reference(name: str, given: Given, files: Files, fault: str) -> Facts:
-    """What is known of the reference of which a fault tells: the first that is not read so, as it is seen
-    once more; or else the first of standard input, which is read once."""
-    told = OF_REFERENCE.fullmatch(fault)
-    if not told:
-        return Facts()
-    called, why = told.groups()
-    secrets, is_read, unseen = secret_words(name, given), False, None
-    is_one_of_many = COMMANDS[name].is_many and len(secrets) > 1
-    for number, (other, word) in enumerate(secrets, 1):
-        facts = Facts(MISSING, path=word, number=number if is_one_of_many else None)
-        if other != called or not word.startswith("@"):
-            pass
-        elif word in INPUTS and not is_read:
-            unseen = unseen or replace(facts, reason=OTHER)
-        elif word in INPUTS and why == "cannot read":
-            return replace(facts, reason=READ_BEFORE)
-        elif word not in INPUTS and fault_of_file(files.get(word[1:])) == why:
-            return facts
-        is_read = is_read or word in INPUTS
-    return unseen or Facts()
+def refers_to_bytes(word: str) -> bool:
+    """Whether TEXT stands for the bytes of a file or of standard input."""
+    return word.startswith("@") and not word.startswith("@@")
+
+
+def facts_of_reference(name: str, given: Given, references: References) -> Facts:
+    """What is known of the reference that is not read: the first in their order. Standard input can be read,
+    once."""
+    secrets, is_input_read = secret_words(name, given), False
+    for number, (called, word) in enumerate(secrets, 1):
+        try:
+            references.text(called, word)
+        except Refused:
+            reason = MISSING if word not in INPUTS else READ_BEFORE if is_input_read else OTHER
+            is_one_of_many = COMMANDS[name].is_many and len(secrets) > 1
+            return Facts(reason, path=word, number=number if is_one_of_many else None)
+        is_input_read = is_input_read or word in INPUTS
+    return Facts()
 
 
 def asked_by(name: str, given: Given) -> Asked:
@@ -526,11 +533,16 @@ def expected(words: Sequence[str], files: Optional[Files] = None, given: bytes =
         return ended
     name, fault = words[0], ended.faults.decode()[:-1]
     said = everyday_words.read(words[1:], COMMANDS[name])
-    facts = facts_of_reference(name, said, files or {}, fault)
+    facts, message = facts_of_reference(name, said, References(files or {}, given)), message_in(name, said)
+    read = frozenset(called for called, word in secret_words(name, said) if word.startswith("@"))
+    if refers_to_bytes(message):
+        read |= {"TEXT"}
+        if fault.upper().startswith("TEXT"):
+            facts = Facts(MISSING, path=message)
     try:
-        resolve(name, COMMANDS[name], said, References(files or {}, given))
+        resolve(COMMANDS[name], said, References(files or {}, given))
     except Refused:
         # Its line is that of the run.
         pass
-    line = explained(asked_by(name, said), fault, facts)
+    line = explained(replace(asked_by(name, said), read=read), fault, facts)
     return Ended(1, ended.output, ended.faults + f"{line}\n".encode())

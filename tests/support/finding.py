@@ -52,7 +52,7 @@ def of_frame(word: str) -> tuple[Made, int]:
 
 
 def of_text(mac: bytes, text: str, is_hex: bool) -> Made:
-    data = hexadecimal(text, (len(text) // 2 * 2,), "TEXT") if is_hex else text.encode()
+    data = hexadecimal(text, (len(text) // 2 * 2,), "TEXT") if is_hex else text.encode(errors="surrogateescape")
     if not data:
         raise Refused("TEXT refused")
 

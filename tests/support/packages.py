@@ -18,7 +18,7 @@ TOOL = Path("tools") / "package"
 VERSION = "0.1.0"
 # The version of packages of something that is not known as proved.
 UNPROVED = f"{VERSION}+unproved"
-NAMES = {"dukpt": "amd64", "libdukpt0": "amd64", "libdukpt-dev": "amd64", "python3-dukpt": "all"}
+NAMES = {"dukpt": "amd64", "dukpt-host": "all", "libdukpt0": "amd64", "libdukpt-dev": "amd64", "python3-dukpt": "all"}
 SECONDS = 600
 # What the tool reads beside program and library.
 PARTS = ("tools", "share", "docs", "examples", "library", "vectors", "page/dukpt.html", "README.md",

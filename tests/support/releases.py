@@ -20,7 +20,7 @@ SECONDS = 600
 NAMES = (
     "CHANGELOG.md", "SHA256SUMS", f"dukpt-{VERSION}-py3-none-linux_x86_64.whl",
     f"dukpt-{VERSION}.crate", f"dukpt-{VERSION}.provenance.json", f"dukpt-{VERSION}.spdx.json",
-    f"dukpt-{VERSION}.tar.gz", f"dukpt-vectors-{VERSION}.tar.gz", "dukpt.html",
+    f"dukpt-{VERSION}.tar.gz", f"dukpt-host_{VERSION}_all.deb", f"dukpt-vectors-{VERSION}.tar.gz", "dukpt.html",
     f"dukpt_{VERSION}_amd64.deb", f"libdukpt-{VERSION}-x86_64-linux.tar.gz",
     f"libdukpt-dev_{VERSION}_amd64.deb", f"libdukpt0_{VERSION}_amd64.deb",
     f"python3-dukpt_{VERSION}_all.deb")

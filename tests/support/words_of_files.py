@@ -15,6 +15,9 @@ PROGRAM = "dukpt"
 # What each command takes.
 EXPLAIN = "--explain"
 EACH: dict[str, Optional[str]] = {"-h": None, "--help": None, EXPLAIN: None}
+# What each takes that prints lines of its own, and how it is, and those that do not.
+VIEWS: dict[str, Optional[str]] = {"--json": None, "--progress": None}
+WITHOUT_VIEWS = ("run", "serve", "help")
 
 Options = dict[str, Optional[str]]
 
@@ -84,7 +87,7 @@ def words_of_help(helps: dict[str, str]) -> Words:
     words = Words()
     for command, text in helps.items():
         # It stands in the texts of the helps, and not among the options.
-        explains = {EXPLAIN: None} if EXPLAIN in text else {}
+        explains = {EXPLAIN: None, **views_of(command)} if EXPLAIN in text else {}
         words.add(command, values_of_help(text), {**options_of_help(text), **explains})
     return words
 
@@ -124,7 +127,11 @@ def words_of_heading(text: str) -> tuple[str, list[str], Options]:
 
 def with_each(command: str, options: Options) -> Options:
     """A heading says nothing of what each command takes."""
-    return options if command == "help" else {**options, **EACH}
+    return options if command == "help" else {**options, **EACH, **views_of(command)}
+
+
+def views_of(command: str) -> Options:
+    return {} if command in WITHOUT_VIEWS else VIEWS
 
 
 def words_of_manual() -> Words:
@@ -148,7 +155,7 @@ def demand_described(words: Words, described: dict[str, list[str]]) -> None:
     """Below each heading of the manual page stand the words of the heading, and no others."""
     for command, values in words.values.items():
         named = [" ".join(filter(None, (option, value)))
-                 for option, value in words.options[command].items() if option not in EACH]
+                 for option, value in words.options[command].items() if option not in {**EACH, **VIEWS}]
         found = [re.sub(" +", " ", it) for it in described.get(command, [])]
         if command != PROGRAM and sorted(found) != sorted(values + named):
             raise Unreadable(f"the words below {command} are not those of its heading")

@@ -23,7 +23,7 @@ SHARED_NAME = "libdukpt.so.0"
 
 
 def packages(sources: Sources) -> list[Package]:
-    return [program(sources), runtime(sources), development(sources), python(sources)]
+    return [program(sources), host(sources), runtime(sources), development(sources), python(sources)]
 
 
 # The program
@@ -77,6 +77,34 @@ def examples(sources: Sources) -> Iterator[Item]:
     yield Item(f"{folder}/haproxy.cfg", sources.share("deploy", "haproxy.cfg"))
     for path in sources.below("examples"):
         yield Item(f"{folder}/{path.name}", read(path))
+
+
+# The host for many connections
+
+
+def host(sources: Sources) -> Package:
+    modules = [it for it in sources.below("share/host/dukpt_host") if it.suffix == ".py"]
+    return Package(
+        "dukpt-host", "all", "net",
+        "payment host keyed by TDES DUKPT: any number of connections",
+        """\
+Answers payments and reversals over any number of connections at once, also
+behind TLS, by the service of the package dukpt: it starts that, starts it
+again where it ended and nothing was lost, and has metrics and health.
+
+Use test keys alone: it is no certified payment host and no certified HSM.""",
+        [Item("usr/bin/dukpt-host", read(sources.root / "share/host/dukpt-host"), EXECUTABLE),
+         *(Item(f"{MODULES}/dukpt_host/{it.name}", read(it)) for it in modules),
+         *(Item(f"usr/lib/systemd/system/dukpt-host.{it}",
+                sources.share("deploy", f"dukpt-host.{it}")) for it in ("service", "socket")),
+         Item("usr/share/man/man1/dukpt-host.1.gz",
+              compressed(sources.share("man", "dukpt-host.1")))],
+        scripts(sources, "dukpt-host"),
+        [f"dukpt (>= {sources.version})", "python3:any (>= 3.11)", "python3-prometheus-client",
+         "python3-systemd"],
+        proof="none of its modules; of the program that they start: "
+        + proof_line(sources.proofs.is_program_proved, sources),
+        made_of={f"share/host/dukpt_host/{it.name}": read(it) for it in modules})
 
 
 # The library

@@ -1,17 +1,15 @@
-mod AllThere
-mod Entered
 mod Failures
 mod FoundRows
-mod InFours
-mod Listed
-mod OneRequest
-pub mod PlainArguments
-mod ReadBlocks
-mod ReadFiles
-mod ReadFind
-mod ReadFrames
-mod ReadKcv
-mod ReadKeys
-pub mod TopLevel
-pub mod WithoutACommand
-pub mod WrittenRequests
+mod Given
+mod Known
+mod Leavings
+mod Loops
+mod Named
+mod Parameters
+mod References
+mod Rows
+mod Steps
+mod TopLevel
+mod WithoutACommand
+mod Words
+mod WrittenRequests

@@ -1,18 +1,18 @@
 -- What the arguments of the command line ask for: this project's own, over the matches of the crate
 -- `clap`.
-use Rattle.std.specs.Prelude.{◌≡◌, ◌⊎◌, ⊤, List, Bool, Option, Some, IsSomeAnd, [], map}
-use Rattle.std.specs.Prelude.{true, false, not, codes, String, string_bytes}
+use Rattle.std.specs.Prelude.{◌≡◌, ◌∷◌, ◌⊎◌, ⊤, List, Bool, Option, IsSomeAnd, [], map, flat_map}
+use Rattle.std.specs.Prelude.{bytes_eq, codes, false, if◌then◌else◌, not, String, string_bytes, true}
+use Rattle.std.specs.Prelude.{unwrap_or}
 use Rattle.std.specs.List.{list_any}
 use Rattle.std.specs.Option.{option_map_or}
-use Rattle.std.specs.Str.{bytes_eq}
 use Rattle.clap.specs.Words.{Row, Text, all_of, fault_of, first_of, subcommand_of}
 use Rattle.clap.specs.declared.error.kind.ErrorKind.{ErrorKind}
 use Rattle.clap.specs.declared.error.kind.ErrorKind.TheVariants.{DisplayHelp, DisplayVersion}
-use Rattle.duk_arguments.specs.CommandLine.{command_line}
-use Rattle.duk_arguments.specs.Given.{Each, Given, flag, given_of, name_of, named, needed, optional, several, valued}
+use Rattle.duk_arguments.specs.CommandLine.{Kind, Parameter, command_line, flag, row_of}
+use Rattle.duk_arguments.specs.Fits.{Fits}
+use Rattle.duk_arguments.specs.Request.{Written}
 use Rattle.duk_arguments.specs.declared.request.NoRequest.{NoRequest}
 use Rattle.duk_arguments.specs.declared.request.NoRequest.TheVariants as answer
-use Rattle.duk_arguments.specs.declared.request.Request.{Request}
 
 -- the bytes of each argument
 abbrev pub texts_of : {A : Type 0} → List (String A) → List Text
@@ -22,25 +22,29 @@ texts_of arguments = map string_bytes arguments
 abbrev pub is_flagged : Text → List Row → Bool
 is_flagged name rows = option_map_or (bytes_eq (codes "true")) (first_of name rows) false
 
--- what is given was found, under its own name
-abbrev pub IsFound : List Row → Given → Type 0
-IsFound rows (needed name text) = first_of name rows ≡ Some text
-IsFound rows (optional name text) = first_of name rows ≡ text
-IsFound rows (valued name text) = first_of name rows ≡ text
-IsFound rows (named name text) = first_of name rows ≡ Some text
-IsFound rows (flag name there) = there ≡ is_flagged name rows
-IsFound rows (several name texts) = all_of name rows ≡ Some texts
+-- the texts that were found under a name; none of a flag that is not there
+abbrev pub texts_found : Kind → Text → List Row → List Text
+texts_found flag name rows = if is_flagged name rows then codes "true" ∷ [] else []
+texts_found _ name rows = unwrap_or (all_of name rows) []
 
--- this is the command of the request, and all that the request gives was found after it
-abbrev pub AsksFor : Text → List Row → Request → Type 0
-AsksFor command rows request = (command ≡ name_of request) × Each (IsFound rows) (given_of request)
+-- the same, each beside the name
+abbrev pub entries_found : List Row → Parameter → List (Text × Text)
+entries_found rows parameter = map (λ text. (parameter.name, text))
+    (texts_found parameter.kind parameter.name rows)
+
+-- this is the command of the request, and its entries are what was found after it, under each name of
+-- the command's row
+abbrev pub AsksFor : Text → List Row → Written → Type 0
+AsksFor command rows request = (command ≡ (row_of request.command).name)
+    × (request.entries ≡ flat_map (entries_found rows) (row_of request.command).parameters)
+    × Fits request
 
 -- a command was used, and what was found after it asks for this
-abbrev pub AsksAfter : Option (Text × List Row) → Request → Type 0
+abbrev pub AsksAfter : Option (Text × List Row) → Written → Type 0
 AsksAfter used request = IsSomeAnd used (λ following. AsksFor following.0 following.1 request)
 
 -- the arguments, the first of which is the program's name, ask for this
-abbrev pub Asks : List Text → Request → Type 0
+abbrev pub Asks : List Text → Written → Type 0
 Asks arguments = AsksAfter (subcommand_of command_line arguments)
 
 -- an error that shows help, or a version, and refuses nothing
@@ -51,7 +55,7 @@ is_shown kind = false
 
 -- nothing is asked for by the arguments
 abbrev pub AskForNothing : List Text → Type 0
-AskForNothing arguments = (request : Request) → ¬ Asks arguments request
+AskForNothing arguments = (request : Written) → ¬ Asks arguments request
 
 -- the arguments ask for help or for the version
 abbrev pub AskForHelp : List Text → Type 0

@@ -1,168 +1,150 @@
 -- The program's command line: this project's own, as a command of the crate `clap`.
-use Rattle.std.specs.Prelude.{◌∷◌, ◌++◌, [], List, Some, false, true, codes}
+use Rattle.std.specs.Prelude.{◌∷◌, [], Bool, List, Some, codes, false, map, true}
 use Rattle.clap.specs.Words.{App, Rule, Shape, Text, new_rule}
 use Rattle.clap.specs.Simple.{new_shape}
 use Rattle.clap.specs.declared.builder.action.ArgAction.TheVariants.{SetTrue}
+use Rattle.duk_arguments.specs.declared.commands.name.CommandName.{CommandName}
+use Rattle.duk_arguments.specs.declared.commands.name.CommandName.TheVariants as name
 
--- NAME: an argument that has to be there
-abbrev pub argument_rule : Text → Rule
-argument_rule name = record (new_rule name) { required = true }
+-- how an argument is written: NAME, [NAME], NAME.. from once to 16 times, [--name VALUE],
+-- --name VALUE, and [--name]
+pub data Kind : Type 0 where
+  needed : Kind
+  optional : Kind
+  several : Kind
+  valued : Kind
+  named : Kind
+  flag : Kind
 
--- [NAME]: an argument that may be left out
-abbrev pub optional_rule : Text → Rule
-optional_rule name = new_rule name
+-- what may stand after a command: under which name, how it is written, whether its text may be a
+-- reference, as `@FILE` is one, and what the help calls that text
+pub record Parameter : Type 0 where
+  pub name : Text
+  pub kind : Kind
+  pub may_refer : Bool
+  pub shown : Text
 
--- NAME..: an argument that has to be there, from once to 16 times
-abbrev pub several_rule : Text → Rule
-several_rule name = record (new_rule name) {
+abbrev pub plain : Kind → Text → Parameter
+plain kind name = record { name = name; kind = kind; may_refer = false; shown = name }
+
+abbrev pub reference : Kind → Text → Parameter
+reference kind name = record { name = name; kind = kind; may_refer = true; shown = name }
+
+-- an option whose text the help calls so
+abbrev pub called : Text → Parameter → Parameter
+called shown parameter = record parameter { shown = shown }
+
+-- a command, and what may stand after it
+pub record CommandRow : Type 0 where
+  pub name : Text
+  pub parameters : List Parameter
+
+abbrev pub row : Text → List Parameter → CommandRow
+row name parameters = record { name = name; parameters = parameters }
+
+-- the row of each command
+abbrev pub row_of : CommandName → CommandRow
+row_of name.Derive = row (codes "derive")
+    (reference needed (codes "BDK") ∷ reference needed (codes "KSN") ∷ plain flag (codes "initial")
+    ∷ plain flag (codes "trace") ∷ plain flag (codes "all") ∷ [])
+row_of name.Walk = row (codes "walk")
+    (reference needed (codes "BDK") ∷ reference needed (codes "IKSN")
+    ∷ reference needed (codes "COUNT") ∷ called (codes "K") (reference valued (codes "skip"))
+    ∷ plain flag (codes "ksn") ∷ plain flag (codes "initial") ∷ [])
+row_of name.Initial = row (codes "initial")
+    (reference needed (codes "BDK") ∷ reference needed (codes "IKSN") ∷ [])
+row_of name.Issue = row (codes "issue")
+    (reference needed (codes "BDK") ∷ reference needed (codes "LOADING")
+    ∷ reference needed (codes "IKSN") ∷ reference needed (codes "COUNT")
+    ∷ called (codes "FILE") (plain named (codes "ledger"))
+    ∷ called (codes "KCV") (reference valued (codes "bdk-kcv"))
+    ∷ called (codes "FILE") (plain valued (codes "out")) ∷ plain flag (codes "skip-issued")
+    ∷ plain flag (codes "again") ∷ [])
+row_of name.Registers = row (codes "registers")
+    (reference needed (codes "BDK") ∷ reference needed (codes "KSN") ∷ plain flag (codes "initial")
+    ∷ [])
+row_of name.Kcv = row (codes "kcv")
+    (reference several (codes "KEY") ∷ plain flag (codes "components") ∷ plain flag (codes "show")
+    ∷ [])
+row_of name.Mac = row (codes "mac")
+    (reference needed (codes "KEY") ∷ plain needed (codes "TEXT") ∷ plain flag (codes "cmac")
+    ∷ plain flag (codes "hex") ∷ [])
+row_of name.Data = row (codes "data")
+    (reference needed (codes "KEY") ∷ plain needed (codes "TEXT")
+    ∷ called (codes "BLOCK") (reference valued (codes "iv")) ∷ plain flag (codes "decipher")
+    ∷ plain flag (codes "hex") ∷ [])
+row_of name.Pin = row (codes "pin")
+    (reference needed (codes "PIN") ∷ reference needed (codes "PAN")
+    ∷ called (codes "KEY") (reference valued (codes "key")) ∷ [])
+row_of name.Unpin = row (codes "unpin")
+    (reference needed (codes "BLOCK") ∷ reference needed (codes "PAN")
+    ∷ called (codes "KEY") (reference valued (codes "key")) ∷ plain flag (codes "show") ∷ [])
+row_of name.Translate = row (codes "translate")
+    (reference needed (codes "BLOCK") ∷ reference needed (codes "PAN")
+    ∷ reference needed (codes "BDK") ∷ reference needed (codes "KSN")
+    ∷ reference needed (codes "ZONE") ∷ plain flag (codes "initial") ∷ [])
+row_of name.Wrap = row (codes "wrap")
+    (reference needed (codes "KBPK") ∷ reference needed (codes "FIELDS")
+    ∷ reference needed (codes "KEY") ∷ reference needed (codes "PAD") ∷ [])
+row_of name.Unwrap = row (codes "unwrap")
+    (reference needed (codes "KBPK") ∷ reference needed (codes "BLOCK") ∷ [])
+row_of name.Show = row (codes "show")
+    (plain needed (codes "KIND") ∷ reference needed (codes "WHAT") ∷ plain flag (codes "show")
+    ∷ called (codes "BDK") (reference valued (codes "key")) ∷ plain flag (codes "initial") ∷ [])
+row_of name.Request = row (codes "request")
+    (reference needed (codes "BDK") ∷ reference needed (codes "KSN")
+    ∷ reference optional (codes "PAN") ∷ reference optional (codes "PIN")
+    ∷ reference optional (codes "AMOUNT")
+    ∷ called (codes "NUMBER") (reference valued (codes "reverse")) ∷ plain flag (codes "initial")
+    ∷ [])
+row_of name.Reply = row (codes "reply")
+    (reference needed (codes "BDK") ∷ reference needed (codes "REQUEST")
+    ∷ reference needed (codes "ANSWER") ∷ plain flag (codes "initial") ∷ [])
+row_of name.Find = row (codes "find")
+    (reference needed (codes "BDK") ∷ reference needed (codes "WHAT")
+    ∷ called (codes "KSN") (reference valued (codes "from"))
+    ∷ called (codes "N") (reference valued (codes "window"))
+    ∷ called (codes "TEXT") (plain valued (codes "text")) ∷ plain flag (codes "hex")
+    ∷ called (codes "PAN") (reference valued (codes "pan"))
+    ∷ called (codes "BLOCK") (reference valued (codes "clear")) ∷ plain flag (codes "initial") ∷ [])
+row_of name.Run = row (codes "run")
+    (plain needed (codes "CONFIG") ∷ plain needed (codes "SCRIPT") ∷ plain flag (codes "journal")
+    ∷ [])
+row_of name.Serve = row (codes "serve")
+    (plain needed (codes "CONFIG") ∷ called (codes "FILE") (plain valued (codes "log"))
+    ∷ called (codes "FILE") (plain valued (codes "journal")) ∷ [])
+row_of name.NewLog = row (codes "new-log")
+    (plain needed (codes "FILE") ∷ reference needed (codes "RECORDS") ∷ [])
+row_of name.NewJournal = row (codes "new-journal")
+    (plain needed (codes "FILE") ∷ reference needed (codes "RECORDS") ∷ [])
+row_of name.CopyJournal = row (codes "copy-journal")
+    (plain needed (codes "OLD") ∷ plain needed (codes "NEW") ∷ [])
+
+-- the commands, in the order in which help lists them
+abbrev pub all_commands : List CommandName
+all_commands = name.Derive ∷ name.Walk ∷ name.Initial ∷ name.Issue ∷ name.Registers ∷ name.Kcv
+    ∷ name.Mac ∷ name.Data ∷ name.Pin ∷ name.Unpin ∷ name.Translate ∷ name.Wrap ∷ name.Unwrap
+    ∷ name.Show ∷ name.Request ∷ name.Reply ∷ name.Find ∷ name.Run ∷ name.Serve ∷ name.NewLog
+    ∷ name.NewJournal ∷ name.CopyJournal ∷ []
+
+-- what `clap` knows of an argument
+abbrev pub rule_by : Kind → Text → Rule
+rule_by needed name = record (new_rule name) { required = true }
+rule_by optional name = new_rule name
+rule_by several name = record (new_rule name) {
   range = Some (record { start_inclusive = 1; end_inclusive = 16 });
   required = true;
 }
+rule_by valued name = record (new_rule name) { long = Some name; value_names = 1 }
+rule_by named name = record (new_rule name) { long = Some name; value_names = 1; required = true }
+rule_by flag name = record (new_rule name) { long = Some name; action = Some SetTrue }
 
--- [--name VALUE]: an option that has a value
-abbrev pub option_rule : Text → Rule
-option_rule name = record (new_rule name) { long = Some name; value_names = 1 }
+abbrev pub rule_of_parameter : Parameter → Rule
+rule_of_parameter parameter = rule_by parameter.kind parameter.name
 
--- --name VALUE: an option that has to be there, and has a value
-abbrev pub named_rule : Text → Rule
-named_rule name = record (option_rule name) { required = true }
-
--- [--name]: an option that is there or not
-abbrev pub flag_rule : Text → Rule
-flag_rule name = record (new_rule name) { long = Some name; action = Some SetTrue }
-
--- a command of this name, and what stands after it
-abbrev pub command : Text → List Rule → Shape
-command name rules = record (new_shape name) { rules = rules }
-
--- derive BDK KSN [--initial] [--trace] [--all]
-abbrev pub derive_command : Shape
-derive_command = command (codes "derive")
-    (argument_rule (codes "BDK") ∷ argument_rule (codes "KSN") ∷ flag_rule (codes "initial")
-    ∷ flag_rule (codes "trace") ∷ flag_rule (codes "all") ∷ [])
-
--- walk BDK IKSN COUNT [--skip K] [--ksn] [--initial]
-abbrev pub walk_command : Shape
-walk_command = command (codes "walk")
-    (argument_rule (codes "BDK") ∷ argument_rule (codes "IKSN") ∷ argument_rule (codes "COUNT")
-    ∷ option_rule (codes "skip") ∷ flag_rule (codes "ksn") ∷ flag_rule (codes "initial") ∷ [])
-
--- initial BDK IKSN
-abbrev pub initial_command : Shape
-initial_command = command (codes "initial")
-    (argument_rule (codes "BDK") ∷ argument_rule (codes "IKSN") ∷ [])
-
--- issue BDK LOADING IKSN COUNT --ledger FILE [--bdk-kcv KCV] [--out FILE] [--skip-issued] [--again]
-abbrev pub issue_command : Shape
-issue_command = command (codes "issue")
-    (argument_rule (codes "BDK") ∷ argument_rule (codes "LOADING") ∷ argument_rule (codes "IKSN")
-    ∷ argument_rule (codes "COUNT") ∷ named_rule (codes "ledger") ∷ option_rule (codes "bdk-kcv")
-    ∷ option_rule (codes "out") ∷ flag_rule (codes "skip-issued") ∷ flag_rule (codes "again") ∷ [])
-
--- registers BDK KSN [--initial]
-abbrev pub registers_command : Shape
-registers_command = command (codes "registers")
-    (argument_rule (codes "BDK") ∷ argument_rule (codes "KSN") ∷ flag_rule (codes "initial") ∷ [])
-
--- kcv KEY.. [--components] [--show]
-abbrev pub kcv_command : Shape
-kcv_command = command (codes "kcv")
-    (several_rule (codes "KEY") ∷ flag_rule (codes "components") ∷ flag_rule (codes "show") ∷ [])
-
--- mac KEY TEXT [--cmac] [--hex]
-abbrev pub mac_command : Shape
-mac_command = command (codes "mac")
-    (argument_rule (codes "KEY") ∷ argument_rule (codes "TEXT") ∷ flag_rule (codes "cmac")
-    ∷ flag_rule (codes "hex") ∷ [])
-
--- data KEY TEXT [--iv BLOCK] [--decipher] [--hex]
-abbrev pub data_command : Shape
-data_command = command (codes "data")
-    (argument_rule (codes "KEY") ∷ argument_rule (codes "TEXT") ∷ option_rule (codes "iv")
-    ∷ flag_rule (codes "decipher") ∷ flag_rule (codes "hex") ∷ [])
-
--- pin PIN PAN [--key KEY]
-abbrev pub pin_command : Shape
-pin_command = command (codes "pin")
-    (argument_rule (codes "PIN") ∷ argument_rule (codes "PAN") ∷ option_rule (codes "key") ∷ [])
-
--- unpin BLOCK PAN [--key KEY] [--show]
-abbrev pub unpin_command : Shape
-unpin_command = command (codes "unpin")
-    (argument_rule (codes "BLOCK") ∷ argument_rule (codes "PAN") ∷ option_rule (codes "key")
-    ∷ flag_rule (codes "show") ∷ [])
-
--- translate BLOCK PAN BDK KSN ZONE [--initial]
-abbrev pub translate_command : Shape
-translate_command = command (codes "translate")
-    (argument_rule (codes "BLOCK") ∷ argument_rule (codes "PAN") ∷ argument_rule (codes "BDK")
-    ∷ argument_rule (codes "KSN") ∷ argument_rule (codes "ZONE") ∷ flag_rule (codes "initial")
-    ∷ [])
-
--- wrap KBPK FIELDS KEY PAD
-abbrev pub wrap_command : Shape
-wrap_command = command (codes "wrap")
-    (argument_rule (codes "KBPK") ∷ argument_rule (codes "FIELDS") ∷ argument_rule (codes "KEY")
-    ∷ argument_rule (codes "PAD") ∷ [])
-
--- unwrap KBPK BLOCK
-abbrev pub unwrap_command : Shape
-unwrap_command = command (codes "unwrap")
-    (argument_rule (codes "KBPK") ∷ argument_rule (codes "BLOCK") ∷ [])
-
--- show KIND WHAT [--show] [--key BDK] [--initial]
-abbrev pub show_command : Shape
-show_command = command (codes "show")
-    (argument_rule (codes "KIND") ∷ argument_rule (codes "WHAT") ∷ flag_rule (codes "show")
-    ∷ option_rule (codes "key") ∷ flag_rule (codes "initial") ∷ [])
-
--- request BDK KSN [PAN] [PIN] [AMOUNT] [--reverse NUMBER] [--initial]
-abbrev pub request_command : Shape
-request_command = command (codes "request")
-    (argument_rule (codes "BDK") ∷ argument_rule (codes "KSN") ∷ optional_rule (codes "PAN")
-    ∷ optional_rule (codes "PIN") ∷ optional_rule (codes "AMOUNT")
-    ∷ option_rule (codes "reverse") ∷ flag_rule (codes "initial") ∷ [])
-
--- reply BDK REQUEST ANSWER [--initial]
-abbrev pub reply_command : Shape
-reply_command = command (codes "reply")
-    (argument_rule (codes "BDK") ∷ argument_rule (codes "REQUEST")
-    ∷ argument_rule (codes "ANSWER") ∷ flag_rule (codes "initial") ∷ [])
-
--- find BDK WHAT [--from KSN] [--window N] [--text TEXT] [--hex] [--pan PAN] [--clear BLOCK]
--- [--initial]
-abbrev pub find_command : Shape
-find_command = command (codes "find")
-    (argument_rule (codes "BDK") ∷ argument_rule (codes "WHAT") ∷ option_rule (codes "from")
-    ∷ option_rule (codes "window") ∷ option_rule (codes "text") ∷ flag_rule (codes "hex")
-    ∷ option_rule (codes "pan") ∷ option_rule (codes "clear") ∷ flag_rule (codes "initial") ∷ [])
-
--- run CONFIG SCRIPT [--journal]
-abbrev pub run_command : Shape
-run_command = command (codes "run")
-    (argument_rule (codes "CONFIG") ∷ argument_rule (codes "SCRIPT") ∷ flag_rule (codes "journal")
-    ∷ [])
-
--- serve CONFIG [--log FILE] [--journal FILE]
-abbrev pub serve_command : Shape
-serve_command = command (codes "serve")
-    (argument_rule (codes "CONFIG") ∷ option_rule (codes "log") ∷ option_rule (codes "journal")
-    ∷ [])
-
--- new-log FILE RECORDS
-abbrev pub new_log_command : Shape
-new_log_command = command (codes "new-log")
-    (argument_rule (codes "FILE") ∷ argument_rule (codes "RECORDS") ∷ [])
-
--- new-journal FILE RECORDS
-abbrev pub new_journal_command : Shape
-new_journal_command = command (codes "new-journal")
-    (argument_rule (codes "FILE") ∷ argument_rule (codes "RECORDS") ∷ [])
-
--- copy-journal OLD NEW
-abbrev pub copy_journal_command : Shape
-copy_journal_command = command (codes "copy-journal")
-    (argument_rule (codes "OLD") ∷ argument_rule (codes "NEW") ∷ [])
+-- what `clap` knows of a command
+abbrev pub shape_of_row : CommandRow → Shape
+shape_of_row row = record (new_shape row.name) { rules = map rule_of_parameter row.parameters }
 
 -- dukpt: it has a version, wants a command, and answers with its help where no arguments are given
 abbrev pub program_shape : Shape
@@ -172,32 +154,9 @@ program_shape = record (new_shape (codes "dukpt")) {
   subcommand_required = true;
 }
 
--- the program, that these commands have been given
-abbrev pub program_of : List Shape → App
-program_of commands = record {
-  top = record program_shape { is_leaf = false };
-  subs = commands;
-}
-
--- the commands over keys
-abbrev pub key_commands : List Shape
-key_commands = derive_command ∷ walk_command ∷ initial_command ∷ issue_command ∷ registers_command
-    ∷ kcv_command ∷ []
-
--- the commands over MACs, data, PIN blocks and key blocks
-abbrev pub block_commands : List Shape
-block_commands = mac_command ∷ data_command ∷ pin_command ∷ unpin_command ∷ translate_command
-    ∷ wrap_command ∷ unwrap_command ∷ show_command ∷ []
-
--- the commands over frames, and the one that finds what made one
-abbrev pub frame_commands : List Shape
-frame_commands = request_command ∷ reply_command ∷ find_command ∷ []
-
--- the commands over files
-abbrev pub file_commands : List Shape
-file_commands = run_command ∷ serve_command ∷ new_log_command ∷ new_journal_command
-    ∷ copy_journal_command ∷ []
-
 -- dukpt, and one of its commands
 abbrev pub command_line : App
-command_line = program_of (key_commands ++ (block_commands ++ (frame_commands ++ file_commands)))
+command_line = record {
+  top = record program_shape { is_leaf = false };
+  subs = map (λ command. shape_of_row (row_of command)) all_commands;
+}

@@ -1,6 +1,6 @@
 pub mod Asked
 pub mod CommandLine
-pub mod Given
-pub mod Keys
+pub mod Fits
+pub mod Request
 pub mod Written
 pub mod inner

@@ -1,18 +1,35 @@
 //! The program, with its commands, as `clap` reads them.
 
-ghost use Rattle.std.specs.Prelude.{◌≡◌, [], IfOk, IfSome, IsSome, map};
+ghost use Rattle.std.specs.Prelude.{◌≡◌, [], IfOk, bytes_eq, find};
 ghost use Rattle.clap.specs.Words.{app_of};
-ghost use Rattle.duk_arguments.specs.CommandLine.{command_line, program_shape};
-ghost use Rattle.duk_arguments.specs.Given.{name_of};
-ghost use Rattle.duk_arguments.specs.declared.request.Request.{Request};
-ghost use Rattle.duk_arguments.specs.inner.CommandLine.{shape_named, shape_of_usage};
+ghost use Rattle.duk_arguments.specs.CommandLine.{all_commands, command_line, program_shape, row_of};
+ghost use Rattle.duk_arguments.specs.Request.{help_name, may_refer};
+ghost use Rattle.duk_arguments.specs.inner.CommandLine.{row_of_usage};
 
 pub(crate) mod arguments;
-mod blocks;
-mod files;
-mod frames;
-mod keys;
+mod copy_journal;
+mod data;
+mod derive;
+mod find;
+mod initial;
+mod issue;
+mod kcv;
+mod mac;
 pub(crate) mod name;
+mod new_journal;
+mod new_log;
+mod pin;
+mod registers;
+mod reply;
+mod request;
+mod run;
+mod serve;
+mod show;
+mod translate;
+mod unpin;
+mod unwrap;
+mod walk;
+mod wrap;
 
 use crate::help;
 use arguments::{Usage, command_of};
@@ -25,7 +42,7 @@ const VERSION: &str = "0.1.0";
 
 /// The program's commands, in the order in which help lists them.
 fn commands() -> [CommandName; 22]
-    ensures { map shape_named result ≡ command_line.subs }
+    ensures { result ≡ all_commands }
 {
     [
         CommandName::Derive,
@@ -55,38 +72,37 @@ fn commands() -> [CommandName; 22]
 
 /// How a command is used.
 pub(crate) fn usage_of<'a>(command: CommandName) -> Usage<'a>
-    ensures { shape_of_usage result ≡ shape_named command }
+    ensures { row_of_usage result ≡ row_of command }
 {
     match command {
-        CommandName::Derive => keys::derive(),
-        CommandName::Walk => keys::walk(),
-        CommandName::Initial => keys::initial(),
-        CommandName::Issue => keys::issue(),
-        CommandName::Registers => keys::registers(),
-        CommandName::Kcv => keys::kcv(),
-        CommandName::Mac => blocks::mac(),
-        CommandName::Data => blocks::enciphered(),
-        CommandName::Pin => blocks::pin(),
-        CommandName::Unpin => blocks::unpin(),
-        CommandName::Translate => blocks::translate(),
-        CommandName::Wrap => blocks::wrap(),
-        CommandName::Unwrap => blocks::unwrap(),
-        CommandName::Show => blocks::show(),
-        CommandName::Request => frames::request(),
-        CommandName::Reply => frames::reply(),
-        CommandName::Find => frames::find(),
-        CommandName::Run => files::run(),
-        CommandName::Serve => files::serve(),
-        CommandName::NewLog => files::new_log(),
-        CommandName::NewJournal => files::new_journal(),
-        CommandName::CopyJournal => files::copy_journal(),
+        CommandName::Derive => derive::usage(),
+        CommandName::Walk => walk::usage(),
+        CommandName::Initial => initial::usage(),
+        CommandName::Issue => issue::usage(),
+        CommandName::Registers => registers::usage(),
+        CommandName::Kcv => kcv::usage(),
+        CommandName::Mac => mac::usage(),
+        CommandName::Data => data::usage(),
+        CommandName::Pin => pin::usage(),
+        CommandName::Unpin => unpin::usage(),
+        CommandName::Translate => translate::usage(),
+        CommandName::Wrap => wrap::usage(),
+        CommandName::Unwrap => unwrap::usage(),
+        CommandName::Show => show::usage(),
+        CommandName::Request => request::usage(),
+        CommandName::Reply => reply::usage(),
+        CommandName::Find => find::usage(),
+        CommandName::Run => run::usage(),
+        CommandName::Serve => serve::usage(),
+        CommandName::NewLog => new_log::usage(),
+        CommandName::NewJournal => new_journal::usage(),
+        CommandName::CopyJournal => copy_journal::usage(),
     }
 }
 
 /// The command that is written so, where there is one.
 pub(crate) fn command_named(name: &str) -> Option<CommandName>
-    ensures named { IfSome result (λ command. (shape_named command).name ≡ name.now) }
-    ensures all { (request : Request) → name.now ≡ name_of request → IsSome result }
+    ensures { result ≡ find (λ command. bytes_eq (row_of command).name name.now) all_commands }
 {
     for command in &commands() {
         if usage_of(*command).name == name {
@@ -94,6 +110,30 @@ pub(crate) fn command_named(name: &str) -> Option<CommandName>
         }
     }
     None
+}
+
+/// Whether the text of an argument of a command may be a reference.
+pub fn may_refer(command: CommandName, name: &str) -> bool
+    ensures { result ≡ may_refer name.now (row_of command) }
+{
+    for argument in usage_of(command).arguments {
+        if argument.may_refer() && argument.name() == name {
+            return true;
+        }
+    }
+    false
+}
+
+/// What the help calls an argument of a command: an option by its text.
+pub fn help_name(command: CommandName, name: &'static str) -> &'static str
+    ensures { result.now ≡ help_name name.now (row_of command) }
+{
+    for argument in usage_of(command).arguments {
+        if argument.name() == name {
+            return argument.shown();
+        }
+    }
+    name
 }
 
 /// The program with its commands.

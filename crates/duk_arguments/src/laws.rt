@@ -5,18 +5,18 @@ ghost use Rattle.clap.specs.Words.{Text, fault_of};
 ghost use Rattle.clap.specs.declared.error.kind.ErrorKind.TheVariants as kind;
 ghost use Rattle.duk_arguments.specs.Asked.{Asks};
 ghost use Rattle.duk_arguments.specs.CommandLine.{command_line};
-ghost use Rattle.duk_arguments.specs.Written.{IsPlainRequest, arguments_of};
-ghost use Rattle.duk_arguments.specs.declared.request.Request.{Request};
+ghost use Rattle.duk_arguments.specs.Request.{Written};
+ghost use Rattle.duk_arguments.specs.Written.{IsInForm, arguments_of};
 
-/// A request that is written after any name of the program, and none of whose arguments begins with
-/// a hyphen, is the one that these arguments make, and no other is.
+/// A request that is written after any name of the program, in the form of its command's row and with
+/// no text that begins with a hyphen, is the one that these arguments make, and no other is.
 pub fn written_requests()
-    ensures taken { (program : Text) (request : Request) → IsPlainRequest request
+    ensures taken { (program : Text) (request : Written) → IsInForm request
         → fault_of command_line (program ∷ arguments_of request) ≡ [] }
-    ensures asks { (program : Text) (request : Request) → IsPlainRequest request
+    ensures asks { (program : Text) (request : Written) → IsInForm request
         → Asks (program ∷ arguments_of request) request }
-    ensures only { (program : Text) (request other : Request) → IsPlainRequest request
-        → Asks (program ∷ arguments_of request) other → arguments_of other ≡ arguments_of request }
+    ensures only { (program : Text) (request other : Written) → IsInForm request
+        → Asks (program ∷ arguments_of request) other → other ≡ request }
 {}
 
 /// After any name of the program, no argument at all is a mistake that is answered with help. The

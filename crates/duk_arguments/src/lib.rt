@@ -2,13 +2,16 @@
 #![tactic(auto)]
 
 mod commands;
+mod entry;
+mod fits;
 mod found;
 mod help;
-mod keys;
 pub mod laws;
 mod reading;
 mod request;
 
-pub use keys::Keys;
+pub use commands::name::CommandName;
+pub use commands::{help_name, may_refer};
+pub use entry::Entry;
 pub use reading::read_request;
-pub use request::{IssueWay, Kept, NoRequest, Request, Sought};
+pub use request::{NoRequest, Request};

@@ -1,17 +1,18 @@
 //! The request that the arguments of the command line make.
 
-ghost use Rattle.std.specs.Prelude.{◌≡◌, [], IfErr, IfOk, IsOk};
+ghost use Rattle.std.specs.Prelude.{◌≡◌, [], IfErr, IfNone, IfOk, IfSome, Some};
 ghost use Rattle.clap.specs.Values.{kind_of};
-ghost use Rattle.clap.specs.Words.{app_of, fault_of, subcommand_rows_of};
+ghost use Rattle.clap.specs.Words.{app_of, fault_of, found_of, rows_of, subcommand_rows_of};
 ghost use Rattle.clap.specs.declared.error.kind.ErrorKind.TheVariants.{ArgumentConflict};
 ghost use Rattle.duk_arguments.specs.Asked.{Asks, AsksAfter, IsNoRequestOf, texts_of};
-ghost use Rattle.duk_arguments.specs.declared.request.Request.{Request};
-ghost use Rattle.duk_arguments.specs.inner.Asked.{IsReportedAs};
-ghost use Rattle.duk_arguments.specs.CommandLine.{command_line};
+ghost use Rattle.duk_arguments.specs.CommandLine.{command_line, row_of};
+ghost use Rattle.duk_arguments.specs.Request.{Written};
+ghost use Rattle.duk_arguments.specs.inner.Asked.{IsNoRequestAfter, IsReportedAs};
 
 use crate::commands::arguments::command_of;
 use crate::commands::name::CommandName;
-use crate::commands::{program, usage_of};
+use crate::commands::{command_named, program, usage_of};
+use crate::fits::fits;
 use crate::found::request_of;
 use crate::request::{NoRequest, Request};
 use clap::error::ErrorKind;
@@ -44,108 +45,90 @@ fn match_by<'a>(
     ensures instead { IfErr result (IsNoRequestOf (texts_of arguments.now)) }
 {
     match program.try_get_matches_from_mut(arguments) {
-        Ok(matches) => match request_in(matches) {
-            Ok(request) => Ok(request),
-            Err(conflict) => Err(conflict_answer(alloc, conflict)),
-        },
+        Ok(matches) => request_in(alloc, &matches),
         Err(error) => Err(no_request(alloc, &error)),
     }
 }
 
-/// The request of the command that was used, over what was found after it, or else which arguments
-/// exclude each other there.
-fn request_in<'a>(matches: ArgMatches<'a>) -> Result<Request<'a>, Conflict>
-    ensures asks { IfOk result (AsksAfter (subcommand_rows_of matches.entry)) }
-    ensures all { (request : Request) → AsksAfter (subcommand_rows_of matches.entry) request
-        → IsOk result }
+/// The request of the command that was used, over what was found after it, unless its arguments
+/// exclude each other.
+fn request_in<'a>(alloc: Global, matches: &ArgMatches<'a>) -> Result<Request<'a>, NoRequest>
+    ensures asks { IfOk result (AsksAfter (subcommand_rows_of matches.now)) }
+    ensures instead { IfErr result (IsNoRequestAfter (subcommand_rows_of matches.now)) }
 {
-    match request_of(&matches) {
-        Some(request) => Ok(request),
-        None => Err(conflict_in(&matches)),
+    let Some((command, found)) = used_command(matches) else {
+        return Err(conflict_answer(alloc, CommandName::Serve));
+    };
+    let Ok(request) = request_of(alloc, command, found) else {
+        return Err(NoRequest::NoMemory);
+    };
+    if fits(&request) {
+        Ok(request)
+    } else {
+        Err(conflict_answer(alloc, command))
     }
 }
 
-/// Arguments that exclude each other, of which `clap` knows nothing: it finds no fault, and yet no
-/// request has them.
-#[derive(Clone, Copy)]
-enum Conflict {
-    /// A log and a journal of `serve`.
-    Stores,
-    /// A number that `request` reverses, and what it takes of a payment.
-    Reversal,
-    /// What `find` is told of what it finds.
-    Sought,
-    /// What `show` shows, and the key that tests a frame.
-    FrameKey,
+/// The command that was used, with what was found after it.
+fn used_command<'f, 'a>(matches: &'f ArgMatches<'a>) -> Option<(CommandName, &'f ArgMatches<'a>)>
+    ensures used { IfSome result (λ used. subcommand_rows_of matches.now
+        ≡ Some ((row_of used.0).name, rows_of (found_of used.1.now))) }
+    ensures none { IfNone result ((request : Written)
+        → ¬ AsksAfter (subcommand_rows_of matches.now) request) }
+{
+    let (name, found) = matches.subcommand()?;
+    Some((command_named(name)?, found))
 }
 
-impl Conflict {
-    /// The command whose arguments they are.
-    fn command(self) -> CommandName {
-        match self {
-            Conflict::Stores => CommandName::Serve,
-            Conflict::Reversal => CommandName::Request,
-            Conflict::Sought => CommandName::Find,
-            Conflict::FrameKey => CommandName::Show,
-        }
-    }
-
-    /// How that command is written.
-    fn command_line(self) -> &'static str {
-        match self {
-            Conflict::Stores => "dukpt serve",
-            Conflict::Reversal => "dukpt request",
-            Conflict::Sought => "dukpt find",
-            Conflict::FrameKey => "dukpt show",
-        }
-    }
-
-    /// What is told of them.
-    fn reason(self) -> &'static str {
-        match self {
-            Conflict::Stores => {
-                "the argument '--log <FILE>' cannot be used with '--journal <FILE>'"
-            }
-            Conflict::Reversal => {
-                "PAN, PIN and AMOUNT are required without '--reverse <NUMBER>', and cannot be used with it"
-            }
-            Conflict::Sought => {
-                "'--text <TEXT>', '--pan <PAN>' and '--clear <BLOCK>' cannot be used with each other and require '--from <KSN>', and '--hex' requires '--text <TEXT>'"
-            }
-            Conflict::FrameKey => {
-                "'--key <BDK>' requires the KIND frame, and '--initial' requires '--key <BDK>'"
-            }
-        }
-    }
-}
-
-/// The conflict of the command that was used.
-fn conflict_in(matches: &ArgMatches<'_>) -> Conflict {
-    match matches.subcommand_name() {
-        Some("request") => Conflict::Reversal,
-        Some("find") => Conflict::Sought,
-        Some("show") => Conflict::FrameKey,
-        _ => Conflict::Stores,
-    }
-}
-
-/// What stands in place of a request where arguments exclude each other.
-fn conflict_answer(alloc: Global, conflict: Conflict) -> NoRequest
+/// What stands in place of a request of a command whose arguments exclude each other.
+fn conflict_answer(alloc: Global, command: CommandName) -> NoRequest
     ensures { IsReportedAs ArgumentConflict result }
 {
-    match conflict_error(alloc, conflict) {
+    match conflict_error(alloc, command) {
         Ok(error) => no_request(alloc, &error),
         Err(AllocError) => NoRequest::NoMemory,
     }
 }
 
-/// The error of `clap` for arguments that exclude each other.
-fn conflict_error(alloc: Global, conflict: Conflict) -> Result<Error, AllocError>
+/// The error of `clap` for arguments of a command that exclude each other.
+fn conflict_error(alloc: Global, command: CommandName) -> Result<Error, AllocError>
     ensures { IfOk result (λ error. kind_of error ≡ ArgumentConflict) }
 {
-    let usage = usage_of(conflict.command());
-    let mut command = command_of(alloc, &usage)?.bin_name(conflict.command_line())?;
-    command.error(ErrorKind::ArgumentConflict, conflict.reason())
+    let usage = usage_of(command);
+    let conflict = conflict_of(command);
+    let mut command = command_of(alloc, &usage)?.bin_name(conflict.written)?;
+    command.error(ErrorKind::ArgumentConflict, conflict.reason)
+}
+
+/// What is told of arguments that exclude each other.
+#[derive(Clone, Copy)]
+struct Conflict {
+    /// How their command is written.
+    written: &'static str,
+    /// Which of them go together.
+    reason: &'static str,
+}
+
+/// What is told of the arguments of a command.
+fn conflict_of(command: CommandName) -> Conflict {
+    match command {
+        CommandName::Request => Conflict {
+            written: "dukpt request",
+            reason: "PAN, PIN and AMOUNT are required without '--reverse <NUMBER>', and cannot be used with it",
+        },
+        CommandName::Find => Conflict {
+            written: "dukpt find",
+            reason: "'--text <TEXT>', '--pan <PAN>' and '--clear <BLOCK>' cannot be used with each other and require '--from <KSN>', and '--hex' requires '--text <TEXT>'",
+        },
+        CommandName::Show => Conflict {
+            written: "dukpt show",
+            reason: "'--key <BDK>' requires the KIND frame, and '--initial' requires '--key <BDK>'",
+        },
+        _ => Conflict {
+            written: "dukpt serve",
+            reason: "the argument '--log <FILE>' cannot be used with '--journal <FILE>'",
+        },
+    }
 }
 
 /// What `clap` reports with an error: that memory was refused, or a text for the user.

@@ -1,5 +1,36 @@
+mod AnswersInTurn
+mod Appended
+mod BatchEndings
+mod BatchOutcomes
+mod BatchUnderWay
 mod CommandsEnd
 mod CountsAreRead
 mod FaultOrder
+mod FindOrder
+mod GroupKeys
+mod IssueOutcomes
+mod IssueRuns
+mod KeptLine
+mod KeysAreRead
+mod Lifetimes
+mod LinesInTurn
+mod MadeAgain
+mod Marked
+mod Members
+mod OneFrame
+mod OrderIsRead
 mod PaddingIsRead
+mod ProgressLines
+mod ReadInTurn
+mod ReplyOrder
+mod RequestOrder
+mod ReversalOrder
+mod SearchSteps
+pub mod SerialNumbers
+pub mod SmallNumbers
+mod SoughtIsRead
+mod StepsOnTheWay
+mod TranslateOrder
+mod Tried
 mod WalkedText
+mod Windows

@@ -1,2 +1,17 @@
+pub mod Again
+pub mod Batch
+pub mod CheckValue
+pub mod CheckValues
+pub mod Find
+pub mod Frames
+pub mod Group
+pub mod IssueGroup
+pub mod Ledger
+pub mod Lines
+pub mod Mac
+pub mod Marks
+pub mod Reversals
+pub mod Search
+pub mod Sought
 pub mod Walk
 pub mod Wrap

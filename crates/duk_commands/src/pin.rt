@@ -1,8 +1,9 @@
 //! The command `pin`: the PIN block of a PIN and a PAN.
 
-ghost use Rattle.std.specs.Prelude.{◌≡◌, ℕ, List, Option, IfOk, IfErr, MatchResult};
+ghost use Rattle.std.specs.Prelude.{◌≡◌, ℕ, List, Option, IfOk, IfErr, MatchResult, OnOk};
 ghost use Rattle.std.specs.Option.{option_copied};
 ghost use Rattle.duk_commands.specs.Pin.{IsKeyArgument, IsPinRefused, IsPinText, block_lines};
+ghost use Rattle.duk_commands.specs.Ready.{AreNotReady, AreReady, MeetsOfPans, MeetsOfPins};
 
 use crate::fault::Fault;
 use crate::lines::{Lines, push_line};
@@ -23,6 +24,30 @@ pub fn pin_lines(pin: &str, pan: &str, key: Option<&str>) -> Result<Lines, Fault
     let pan = Pan::parse(pan).map_err(Fault::PinRefused)?;
     let key = read_key_argument(key)?;
     Ok(block_lines(&pin, &pan, key))
+}
+
+/// Whether PAN and, where it is given, KEY of a batch of PINs can be used, before there is any item.
+/// The faults, in this order: that of the PAN (`PanLength`, `PanDigit`), `key refused`.
+pub fn pins_ready(pan: &str, key: Option<&str>) -> Result<(), Fault>
+    ensures ready { OnOk result (AreReady (MeetsOfPins pan.now (option_copied key.entry))) }
+    ensures refused { IfErr result
+        (AreNotReady (MeetsOfPins pan.now (option_copied key.entry))) }
+{
+    Pan::parse(pan).map_err(Fault::PinRefused)?;
+    read_key_argument(key)?;
+    Ok(())
+}
+
+/// Whether PIN and, where it is given, KEY of a batch of PANs can be used, before there is any item.
+/// The faults, in this order: that of the PIN (`PinLength`, `PinDigit`), `key refused`.
+pub fn pans_ready(pin: &str, key: Option<&str>) -> Result<(), Fault>
+    ensures ready { OnOk result (AreReady (MeetsOfPans pin.now (option_copied key.entry))) }
+    ensures refused { IfErr result
+        (AreNotReady (MeetsOfPans pin.now (option_copied key.entry))) }
+{
+    Pin::parse(pin).map_err(Fault::PinRefused)?;
+    read_key_argument(key)?;
+    Ok(())
 }
 
 /// The key of `--key`, where it is given.

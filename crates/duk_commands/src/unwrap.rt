@@ -1,9 +1,10 @@
 //! The command `unwrap`: the header fields and the key of a key block.
 
-ghost use Rattle.std.specs.Prelude.{◌≡◌, IfOk, IfErr};
+ghost use Rattle.std.specs.Prelude.{◌≡◌, IfOk, IfErr, OnOk};
 ghost use Rattle.duk_block.specs.Faults.{IsFirstFault};
 ghost use Rattle.duk_block.specs.KeyBlock.{Wraps};
 ghost use Rattle.duk_tdes.specs.KeyBytes.{bytes_of};
+ghost use Rattle.duk_commands.specs.Ready.{AreNotReady, AreReady, MeetsOfBlocks};
 ghost use Rattle.duk_commands.specs.Unwrap.{IsUnwrapRefused, IsUnwrapText, unwrapped_lines};
 
 use crate::fault::Fault;
@@ -25,6 +26,16 @@ pub fn unwrap_lines(kbpk: &str, block: &str) -> Result<Lines, Fault>
         Ok((header, key)) => Ok(lines_of(&header, key)),
         Err(fault) => Err(Fault::BlockRefused(fault)),
     }
+}
+
+/// Whether KBPK of a batch of key blocks can be used, before there is any item. The fault is `KBPK
+/// refused`.
+pub fn unwrap_ready(kbpk: &str) -> Result<(), Fault>
+    ensures ready { OnOk result (AreReady (MeetsOfBlocks kbpk.now)) }
+    ensures refused { IfErr result (AreNotReady (MeetsOfBlocks kbpk.now)) }
+{
+    KeyBytes::parse(kbpk).ok_or(Fault::KbpkRefused)?;
+    Ok(())
 }
 
 /// The header and the key of a key block under a protection key of either length.

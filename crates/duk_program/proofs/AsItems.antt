@@ -1,6 +1,6 @@
 -- The lines and the fault of an item are those that are made of it.
 use Rattle.std.proofs.Common.{◌≡◌, List, ℕ, Result, Ok, Err, IfErr, IfOk}
-use Rattle.duk_batch.specs.Item.{HasFaultLine}
+use Rattle.duk_commands.specs.Item.{HasFaultLine}
 use Rattle.duk_program.specs.declared.items.ItemFault.{ItemFault}
 use Rattle.duk_program.specs.inner.Items.{IsAsItem, item_line}
 

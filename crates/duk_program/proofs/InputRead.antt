@@ -1,30 +1,28 @@
 -- What is read of the input: its first line, a byte at a time, for one of the secrets in turn.
 use Rattle.std.proofs.Common.{◌≡◌, ◌≢◌, ◌==◌, ◌||◌, ◌+◌, ◌<◌, ◌≤◌, ℕ, suc, Bool, true, false, List, [], ◌∷◌, ◌++◌, Option, Some, None, length, map, take, get_or, option_map, codes, inl, inr, refl, sym, subst, ap, ◌∙◌, append_assoc, append-nil, length-append, arith}
 use Rattle.std.proofs.Math.Seq.{take-append_seam}
-use Rattle.std.specs.Borrow.{Bor}
-use Rattle.std.specs.Prelude.{Result, Ok, Err, IfErr, IfOk, IsOkAnd, MatchResult, bytes_eq, if◌then◌else◌}
+use Rattle.std.specs.Prelude.{Result, Ok, Err, IfErr, IfOk, MatchResult, bytes_eq, if◌then◌else◌}
 use Rattle.std.proofs.lemmas.List.{get_or-map, length-map, map_more, take-map, take_all}
-use Rattle.std.proofs.lemmas.List.Folds.{list_any-append}
-use Rattle.std.proofs.lemmas.Option.{none-some, same_Some}
 use Rattle.std.proofs.lemmas.Slice.Eq.{bytes_eq-Decides}
 use Rattle.std.specs.Io.KnownBytes.{Consumes, IsAtEnd}
 use Rattle.std.specs.List.{before_first, position_or_len}
 use Rattle.std.specs.Str.{IsUtf8}
-use Rattle.duk_arguments.specs.declared.request.Request.{Request}
+use Rattle.duk_arguments.specs.CommandLine.{row_of}
+use Rattle.duk_arguments.specs.Request.{Written, help_name}
 use Rattle.duk_host.specs.Serve.{Supply}
 use Rattle.duk_io.specs.Known.{Known}
 use Rattle.duk_io.specs.Source.{AreBytesRead, AreReadsMade, IsBroken}
 use Rattle.duk_program.proofs.Words.{means_push}
-use Rattle.duk_service.specs.Files.{FileKnown, IsLineRead, IsLineUnread, first_line, has_end, without_return}
-use Rattle.duk_program.specs.InputLine.{HasLineTaken, IsInputBroken, IsLineTaken, input_file, with_input}
-use Rattle.duk_program.specs.Secrets.{AreRead, IsInputTaken, IsNextUnread, IsSecretFault, IsUnread, Means, RefersToInput, StandsFor, inputs_in, is_input_reference, is_of_input, reference_in, secret_at, secrets_of}
+use Rattle.duk_service.specs.Files.{FileKnown, IsLineRead, first_line, has_end, without_return}
+use Rattle.duk_program.specs.InputLine.{HasLineTaken, IsLineTaken, input_file, with_input}
+use Rattle.duk_program.specs.Secrets.{AreRead, IsFirstUnread, IsInputTaken, IsNextUnread, IsSecretFault, Means, RefersToInput, StandsFor, inputs_in, is_input_reference, is_of_input, names_in, reference_in, secrets_in}
 use Rattle.duk_program.specs.declared.secrets.Secret.{Secret}
 use Rattle.duk_program.specs.declared.secrets.SecretFault.{SecretFault}
 use Rattle.duk_program.specs.declared.secrets.SecretFault.TheVariants.{NoMemory, Unread}
 use Rattle.duk_program.specs.declared.secrets.Unread.TheVariants.{CannotRead, NotUtf8, TooLong}
 use Rattle.duk_service.specs.declared.file_system.FileFault.{FileFault}
 use Rattle.duk_service.specs.declared.file_system.FileFault.TheVariants as file
-use Rattle.duk_program.specs.inner.Secrets.{IsAnyLineUnread, IsOnceUnread, IsReadOnce, IsSecretRead, IsSecretRefused, IsTextRefused, inputs_read, line_fault}
+use Rattle.duk_program.specs.inner.Secrets.{IsOnceUnread, IsReadOnce, IsSecretRead, IsSecretRefused, IsTextRefused, inputs_read, line_fault}
 
 -- ---- a line that has no end, and one that has
 
@@ -68,20 +66,6 @@ pub record IsLineUnderWay (before now : Supply) (count : ℕ) (line : List ℕ) 
   pub no_end : has_end line ≡ false
   pub count_is : length line ≡ count
 
-pub start_line : (reads : ReadLaws) (input : Supply) → IsLineUnderWay input input 0 []
-start_line reads input = record { read = reads.none input.known; made = reads.no_reads input.reads; no_end = refl; count_is = refl }
-
--- a byte more
-pub next_byte : (reads : ReadLaws) (before between after : Supply) (count : ℕ) (line : List ℕ) (byte : ℕ) → IsLineUnderWay before between count line
-    → AreBytesRead between.known after.known (byte ∷ []) → AreReadsMade between.reads after.reads 1 → (byte == 10) ≡ false
-    → IsLineUnderWay before after (count + 1) (line ++ byte ∷ [])
-next_byte reads before between after count line byte way read one other = record {
-  read = reads.next before.known between.known after.known line (byte ∷ []) way.read read;
-  made = reads.more_reads before.reads between.reads after.reads count 1 way.made one;
-  no_end = rw (list_any-append (λ b. b == 10) line (byte ∷ []), way.no_end, other) refl;
-  count_is = omega (arith, length-append line (byte ∷ []), way.count_is);
-}
-
 -- the end of the line
 pub line_ends : (reads : ReadLaws) (before between after : Supply) (count : ℕ) (line : List ℕ) → IsLineUnderWay before between count line
     → AreBytesRead between.known after.known (10 ∷ []) → AreReadsMade between.reads after.reads 1 → count < 4098
@@ -102,51 +86,6 @@ line_ends reads before between after count line way read one few =
       };
       line_is = sym (first_line_ended line [] way.no_end);
     }
-
--- the end of the input
-pub input_ends : (reads : ReadLaws) (before between after : Supply) (count : ℕ) (line : List ℕ) → IsLineUnderWay before between count line
-    → AreBytesRead between.known after.known [] → IsAtEnd after.known.contents → AreReadsMade between.reads after.reads 1 → count < 4098
-    → HasLineTaken before after line
-input_ends reads before between after count line way read over one few = record {
-  bytes = line;
-  taken = record {
-    read = subst (AreBytesRead before.known after.known) (append-nil line) (reads.next before.known between.known after.known line [] way.read read);
-    few = omega (arith, way.count_is, few);
-    stops = inr (inr (record {
-      no_end = way.no_end;
-      over = over;
-      made = subst (λ n. AreReadsMade before.reads after.reads (n + 1)) (sym way.count_is) (reads.more_reads before.reads between.reads after.reads count 1 way.made one);
-    }));
-  };
-  line_is = sym (first_line_all line way.no_end);
-}
-
--- as many bytes as are read at most
-pub line_is_long : (before now : Supply) (count : ℕ) (line : List ℕ) → IsLineUnderWay before now count line → count ≡ 4098 → HasLineTaken before now line
-line_is_long before now count line way all = record {
-  bytes = line;
-  taken = record {
-    read = way.read;
-    few = omega (arith, way.count_is, all);
-    stops = inr (inl (record {
-      no_end = way.no_end;
-      all = way.count_is ∙ all;
-      made = subst (AreReadsMade before.reads now.reads) (sym way.count_is) way.made;
-    }));
-  };
-  line_is = sym (first_line_all line way.no_end);
-}
-
--- a read that fails
-pub input_breaks : (reads : ReadLaws) (before between after : Supply) (count : ℕ) (line : List ℕ) → IsLineUnderWay before between count line
-    → IsBroken between.known after.known [] → AreReadsMade between.reads after.reads 1 → count < 4098 → IsInputBroken before after
-input_breaks reads before between after count line way broken one few = record {
-  bytes = line;
-  broken = subst (IsBroken before.known after.known) (append-nil line) (reads.broken before.known between.known after.known line [] way.read broken);
-  few = omega (arith, way.count_is, few);
-  no_end = way.no_end;
-  made = subst (λ n. AreReadsMade before.reads after.reads (n + 1)) (sym way.count_is) (reads.more_reads before.reads between.reads after.reads count 1 way.made one);
-}
 
 -- ---- the line that was read is the first of the input
 
@@ -179,12 +118,6 @@ input_line_read before after line has fits =
 differ : (xs ys : List ℕ) → xs ≢ ys → bytes_eq xs ys ≡ false
 differ xs ys other = grind (arith, bytes_eq-Decides xs ys)
 
-pub no_input_reference : (written path : List ℕ) → reference_in written ≡ Some path → path ≢ codes "-" → ¬ RefersToInput written
-no_input_reference written path e other is = other (same_Some path (codes "-") (sym e ∙ is))
-
-pub word_is_no_input : (written : List ℕ) → reference_in written ≡ None → ¬ RefersToInput written
-word_is_no_input written e is = none-some (codes "-") (sym e ∙ is)
-
 -- a text that refers to the input is counted, and no other is
 no_path_of_input : (reference : Option (List ℕ)) → reference ≢ Some (codes "-") → is_of_input reference ≡ false
 no_path_of_input None other = refl
@@ -211,30 +144,6 @@ means_elsewhere held before written text other means =
     stands_elsewhere held before (reference_in written) written text other means
 
 -- ---- one secret
-
--- a word is read, the line of the input, or that of a file
-pub word_read : (held : List ℕ → FileKnown) (was : Bool) (now : Supply) (written text : List ℕ) → reference_in written ≡ None → text ≡ written
-    → IsSecretRead held was was now now written text
-word_read held was now written text word same = inr (record {
-  no_input = word_is_no_input written word;
-  kept = refl;
-  idle = refl;
-  means = subst (λ r. StandsFor held r written text) (sym word) same;
-})
-
-pub input_read : (held : List ℕ → FileKnown) (was is : Bool) (before after : Supply) (written text line : List ℕ) → reference_in written ≡ Some (codes "-")
-    → text ≡ line → IsReadOnce was is before after line → IsSecretRead held was is before after written text
-input_read held was is before after written text line refers same once =
-    inl (record { is_input = refers; once = subst (IsReadOnce was is before after) (sym same) once })
-
-pub file_read : (held : List ℕ → FileKnown) (was : Bool) (now : Supply) (written path text line : List ℕ) → reference_in written ≡ Some path → path ≢ codes "-"
-    → text ≡ line → IsLineRead (held path) 4096 line → IsSecretRead held was was now now written text
-file_read held was now written path text line refers other same read = inr (record {
-  no_input = no_input_reference written path refers other;
-  kept = refl;
-  idle = refl;
-  means = subst (λ r. StandsFor held r written text) (sym refers) (subst (IsLineRead (held path) 4096) (sym same) read);
-})
 
 -- the line of the input is not read
 input_cause : (was : Bool) (before after : Supply) (why : FileFault) (held : List ℕ → FileKnown) (secret : Secret) (written : List ℕ)
@@ -266,77 +175,12 @@ input_no_text held was is before after secret written line told refers once refu
       (input_not_text held was is before after secret written line refers once text.1)
 ]
 
--- the line of a file is not read
-file_cause : (held : List ℕ → FileKnown) (was : Bool) (now : Supply) (secret : Secret) (written path : List ℕ) (why : FileFault) → reference_in written ≡ Some path
-    → path ≢ codes "-" → IsLineUnread (held path) 4096 why → IsSecretRefused held was now now secret written (line_fault secret why)
-file_cause held was now secret written path file.CannotRead refers other cause = (
-  refl,
-  inl (record {
-    no_input = no_input_reference written path refers other;
-    idle = refl;
-    cause = subst (λ r. IsUnread held r CannotRead) (sym refers) cause;
-  }),
-)
-file_cause held was now secret written path file.TooLong refers other cause = (
-  refl,
-  inl (record {
-    no_input = no_input_reference written path refers other;
-    idle = refl;
-    cause = subst (λ r. IsUnread held r TooLong) (sym refers) cause;
-  }),
-)
-file_cause held was now secret written path file.NoMemory refers other cause = tt
-
-pub file_unread : (held : List ℕ → FileKnown) (was : Bool) (now : Supply) (secret : Secret) (written path : List ℕ) (why : FileFault) (told : SecretFault)
-    → reference_in written ≡ Some path → path ≢ codes "-" → told ≡ line_fault secret why → IsLineUnread (held path) 4096 why
-    → IsSecretRefused held was now now secret written told
-file_unread held was now secret written path why told refers other is cause =
-    subst (IsSecretRefused held was now now secret written) (sym is) (file_cause held was now secret written path why refers other cause)
-
-pub file_no_text : (held : List ℕ → FileKnown) (was : Bool) (now : Supply) (secret : Secret) (written path line : List ℕ) (told : SecretFault)
-    → reference_in written ≡ Some path → path ≢ codes "-" → IsLineRead (held path) 4096 line → IsTextRefused secret line told
-    → IsSecretRefused held was now now secret written told
-file_no_text held was now secret written path line told refers other read refused = elim refused [
-  | inl memory ↦ subst (IsSecretRefused held was now now secret written) (sym memory) tt
-  | inr text ↦ subst (IsSecretRefused held was now now secret written) (sym text.0) (
-    refl,
-    inl (record {
-      no_input = no_input_reference written path refers other;
-      idle = refl;
-      cause = subst (λ r. IsUnread held r NotUtf8) (sym refers) (record { line = line; read = read; not_utf8 = text.1 });
-    }),
-  )
-]
-
--- the text of a line that is read is what is said of that line, and so is a fault
-pub text_through : {T E V F : Type 0} (P : V → Type 0) (Q : T → V → Type 0) (S : T → Type 0) (text : Result T E) (line : Result V F)
-    → IfOk text (λ t. IsOkAnd line (Q t)) → IfOk line P → ((t : T) (l : V) → Q t l → P l → S t) → IfOk text S
-text_through P Q S (Ok t) (Ok l) same says leads = leads t l same says
-text_through P Q S (Ok t) (Err why) same says leads = absurd same
-text_through P Q S (Err why) line same says leads = tt
-
 pub fault_through : {T E V F : Type 0} (P : V → Type 0) (R : F → Type 0) (A : V → E → Type 0) (B : F → E → Type 0) (S : E → Type 0) (text : Result T E) (line : Result V F)
     → IfErr text (λ e. MatchResult line (λ l. A l e) (λ f. B f e)) → IfOk line P → IfErr line R
     → ((l : V) (e : E) → A l e → P l → S e) → ((f : F) (e : E) → B f e → R f → S e) → IfErr text S
 fault_through P R A B S (Ok t) line same says refused of_text of_line = tt
 fault_through P R A B S (Err e) (Ok l) same says refused of_text of_line = of_text l e same says
 fault_through P R A B S (Err e) (Err f) same says refused of_text of_line = of_line f e same refused
-
--- ---- the line of the input is read once
-pub once_unread : (was : Bool) (before after : Supply) (why : FileFault) → was ≡ false → IsAnyLineUnread before after why → IsOnceUnread was before after why
-once_unread true before after why unread cause = absurd (grind (arith, unread))
-once_unread false before after file.CannotRead unread cause = cause
-once_unread false before after file.TooLong unread cause = absurd cause
-once_unread false before after file.NoMemory unread cause = tt
-
-pub once_long : (was : Bool) (before after : Supply) (line : List ℕ) → was ≡ false → HasLineTaken before after line → 4096 < length line
-    → IsOnceUnread was before after file.TooLong
-once_long true before after line unread taken long = absurd (grind (arith, unread))
-once_long false before after line unread taken long = record { line = line; taken = taken; long = long }
-
-pub once_again : (was : Bool) (now : Supply) → was ≡ true → IsOnceUnread was now now file.CannotRead
-once_again true now again = refl
-once_again false now again = absurd (grind (arith, again))
 
 -- ---- secrets that are read in turn
 
@@ -398,38 +242,52 @@ secrets_more held written texts before between after was is word text so_far rea
   | inr other ↦ other_more held written texts before between after was is word text so_far other.no_input other.kept other.idle other.means
 ]
 
--- one secret more is read
-pub reads_more : (held : List ℕ → FileKnown) (written : List (Bor (List ℕ))) (texts : List (List ℕ)) (before between after : Supply) (was is : Bool) (place : ℕ) (d : Bor (List ℕ))
-    (text : List ℕ) → place < length written → AreReadSoFar held (map (λ word. word.now) (take place written)) texts before between was
-    → IsSecretRead held was is between after (get_or written place d).now text
-    → AreReadSoFar held (map (λ word. word.now) (take (place + 1) written)) (texts ++ text ∷ []) before after is
-reads_more held written texts before between after was is place d text inside so_far one =
-    subst (λ words. AreReadSoFar held words (texts ++ text ∷ []) before after is) (sym (map_more (λ word. word.now) written place d inside))
-    (secrets_more held (map (λ word. word.now) (take place written)) texts before between after was is (get_or written place d).now text so_far one)
+module _ {A : Type 0} (text_of : A → List ℕ) (written : List A) where
+  -- one secret more is read
+  pub reads_more : (held : List ℕ → FileKnown) (texts : List (List ℕ)) (before between after : Supply) (was is : Bool) (place : ℕ) (d : A)
+      (text : List ℕ) → place < length written → AreReadSoFar held (map text_of (take place written)) texts before between was
+      → IsSecretRead held was is between after (text_of (get_or written place d)) text
+      → AreReadSoFar held (map text_of (take (place + 1) written)) (texts ++ text ∷ []) before after is
+  reads_more held texts before between after was is place d text inside so_far one =
+      subst (λ words. AreReadSoFar held words (texts ++ text ∷ []) before after is) (sym (map_more text_of written place d inside))
+      (secrets_more held (map text_of (take place written)) texts before between after was is (text_of (get_or written place d)) text so_far one)
 
--- all are
-pub all_read : (held : List ℕ → FileKnown) (asked : Request) (written : List (Bor (List ℕ))) (texts : List (List ℕ)) (before now : Supply) (is : Bool) (place : ℕ)
-    → map (λ word. word.now) written ≡ secrets_of asked → length written ≤ place → AreReadSoFar held (map (λ word. word.now) (take place written)) texts before now is
-    → AreRead held (secrets_of asked) texts before now
-all_read held asked written texts before now is place same all so_far =
-    subst (λ words. AreRead held words texts before now) (ap (map (λ word. word.now)) (take_all place written all) ∙ same) so_far.read
+  module _ (held : List ℕ → FileKnown) (asked : Written) (same : map text_of written ≡ secrets_in asked) where
+    -- all are
+    pub all_read : (texts : List (List ℕ)) (before now : Supply) (is : Bool) (place : ℕ)
+        → length written ≤ place → AreReadSoFar held (map text_of (take place written)) texts before now is
+        → AreRead held (secrets_in asked) texts before now
+    all_read texts before now is place all so_far =
+        subst (λ words. AreRead held words texts before now) (ap (map text_of) (take_all place written all) ∙ same) so_far.read
 
--- a secret is not read, and those before it are
-pub first_unread : (held : List ℕ → FileKnown) (asked : Request) (written : List (Bor (List ℕ))) (texts : List (List ℕ)) (before between after : Supply) (was : Bool) (place : ℕ)
-    (d : Bor (List ℕ)) (secret : Secret) (why : SecretFault) → map (λ word. word.now) written ≡ secrets_of asked → place < length written
-    → AreReadSoFar held (map (λ word. word.now) (take place written)) texts before between was → secret ≡ secret_at asked place
-    → IsSecretRefused held was between after secret (get_or written place d).now why → IsSecretFault held before after asked why
-first_unread held asked written texts before between after was place d secret NoMemory same inside so_far named refused = tt
-first_unread held asked written texts before between after was place d secret (Unread name why) same inside so_far named refused =
-    let words : map (λ word. word.now) (take place written) ≡ take place (secrets_of asked) = sym (take-map (λ word. word.now) place written) ∙ ap (take place) same in
-    record {
-      place = place;
-      is_there = subst (λ words. place < length words) same (subst (λ n. place < n) (sym (length-map written (λ word. word.now))) inside);
-      texts = texts;
-      between = between;
-      earlier = subst (λ words. AreRead held words texts before between) words so_far.read;
-      secret_is = refused.0 ∙ named;
-      cause = subst (λ word. IsNextUnread held (inputs_in (take place (secrets_of asked))) between after word why)
-          (sym (get_or-map (λ word. word.now) written place d [] inside) ∙ ap (λ words. get_or words place []) same)
-          (subst (λ n. IsNextUnread held n between after (get_or written place d).now why) (sym so_far.inputs ∙ ap inputs_in words) refused.1);
-    }
+    -- a secret is not read, and those before it are
+    pub first_unread : (texts : List (List ℕ)) (before between after : Supply) (was : Bool)
+        (d : A) (secret : Secret) (why : SecretFault) → secret.place < length written
+        → AreReadSoFar held (map text_of (take secret.place written)) texts before between was
+        → secret.name.now ≡ help_name (get_or (names_in asked) secret.place []) (row_of asked.command)
+        → IsSecretRefused held was between after secret (text_of (get_or written secret.place d)) why → IsSecretFault held before after asked why
+    first_unread texts before between after was d secret NoMemory inside so_far named refused = tt
+    first_unread texts before between after was d secret (Unread told why) inside so_far named refused =
+        let place = secret.place in
+        let words : map text_of (take place written) ≡ take place (secrets_in asked) = sym (take-map text_of place written) ∙ ap (take place) same in
+        subst (λ (unread : Secret). IsFirstUnread held before after asked unread why) (sym refused.0) (record {
+          is_there = subst (λ words. place < length words) same (subst (λ n. place < n) (sym (length-map written text_of)) inside);
+          name = named;
+          texts = texts;
+          between = between;
+          earlier = subst (λ words. AreRead held words texts before between) words so_far.read;
+          cause = subst (λ word. IsNextUnread held (inputs_in (take place (secrets_in asked))) between after word why)
+              (sym (get_or-map text_of written place d [] inside) ∙ ap (λ words. get_or words place []) same)
+              (subst (λ n. IsNextUnread held n between after (text_of (get_or written place d)) why) (sym so_far.inputs ∙ ap inputs_in words) refused.1);
+        })
+
+    -- the same of a secret that stands at a place
+    pub first_unread_at : (texts : List (List ℕ)) (before between after : Supply) (was : Bool) (d : A) (secret : Secret) (why : SecretFault) (place : ℕ)
+        → secret.place ≡ place → place < length written → AreReadSoFar held (map text_of (take place written)) texts before between was
+        → secret.name.now ≡ help_name (get_or (names_in asked) place []) (row_of asked.command)
+        → IsSecretRefused held was between after secret (text_of (get_or written place d)) why → IsSecretFault held before after asked why
+    first_unread_at texts before between after was d secret why place at inside so_far named refused =
+        first_unread texts before between after was d secret why (subst (λ n. n < length written) (sym at) inside)
+        (subst (λ n. AreReadSoFar held (map text_of (take n written)) texts before between was) (sym at) so_far)
+        (subst (λ n. secret.name.now ≡ help_name (get_or (names_in asked) n []) (row_of asked.command)) (sym at) named)
+        (subst (λ n. IsSecretRefused held was between after secret (text_of (get_or written n d)) why) (sym at) refused)

@@ -1,14 +1,14 @@
 -- What a task comes to over a ledger.
 use Rattle.std.proofs.Common.{◌*◌, ℕ, List, Result, Ok, Err, IfErr, IfOk, OnOk, inr}
-use Rattle.std.specs.Option.{option_copied}
+use Rattle.std.specs.Prelude.{codes}
+use Rattle.duk_arguments.specs.Request.{Written, value_in}
 use Rattle.duk_commands.specs.Answer.{Streams}
+use Rattle.duk_commands.specs.Issue.{ends}
+use Rattle.duk_commands.specs.Order.{IsOrderOf}
+use Rattle.duk_commands.specs.declared.issue.fault.IssueFault.{IssueFault}
+use Rattle.duk_commands.specs.declared.issue.order.Order.{Order}
 use Rattle.duk_io.specs.Known.{Known}
-use Rattle.duk_issue.specs.Issue.{ends}
-use Rattle.duk_issue.specs.Order.{IsOrderOf}
-use Rattle.duk_issue.specs.declared.fault.IssueFault.{IssueFault}
-use Rattle.duk_issue.specs.declared.order.Order.{Order}
 use Rattle.duk_program.specs.IssueFiles.{HasMadeAll, HasMadeLines, HasNotIssuedFiles, HasNotMadeLines, HasStopped, IsBegun, IsLedgerOpened, IsNotIssuedTo, IssueFilesKnown, IssueTask, Issuing, if_issued_in, issue_task, issuing, order_in}
-use Rattle.duk_program.specs.declared.issue_files.IssueArguments.{IssueArguments}
 use Rattle.duk_service.specs.Files.{IsFrontRead}
 use Rattle.duk_store.specs.Disk.{DiskMeaning}
 use Rattle.duk_store.specs.DiskLog.{disk_log_meaning, new_disk_log}
@@ -25,22 +25,22 @@ stopped meaning task i last written (Ok passed_over) is = tt
 stopped meaning task i last written (Err why) is = (last, is)
 
 -- what comes of a task that is begun
-pub begun : {D V E : Type 0} (meaning : DiskMeaning D) (known : IssueFilesKnown D) (arguments : IssueArguments) (End : IssueTask → D → Type 0) (order : Order)
-    (padding : List ℕ) (disk : D) (ended : Result V E) → IsOrderOf (order_in arguments) order → IsFrontRead known.random (6 * order.count) padding
-    → IsLedgerOpened meaning known.ledger disk → OnOk ended (End (issue_task order (if_issued_in arguments.way) padding) disk)
-    → OnOk ended (IsBegun meaning known arguments End)
-begun meaning known arguments End order padding disk (Ok done) read padding_read opened is =
+pub begun : {D V E : Type 0} (meaning : DiskMeaning D) (known : IssueFilesKnown D) (asked : Written) (End : IssueTask → D → Type 0) (order : Order)
+    (padding : List ℕ) (disk : D) (ended : Result V E) → IsOrderOf (order_in asked) order → IsFrontRead known.random (6 * order.count) padding
+    → IsLedgerOpened meaning known.ledger disk → OnOk ended (End (issue_task order (if_issued_in asked) padding) disk)
+    → OnOk ended (IsBegun meaning known asked End)
+begun meaning known asked End order padding disk (Ok done) read padding_read opened is =
     record { order = order; read = read; padding = padding; padding_read = padding_read; disk = disk; opened = opened; end = is }
-begun meaning known arguments End order padding disk (Err why) read padding_read opened is = tt
+begun meaning known asked End order padding disk (Err why) read padding_read opened is = tt
 
-pub not_ended : {D V : Type 0} (meaning : DiskMeaning D) (known : IssueFilesKnown D) (arguments : IssueArguments) (s : Streams) (order : Order)
-    (padding : List ℕ) (disk : D) (ended : Result V IssueFault) → IsOrderOf (order_in arguments) order → IsFrontRead known.random (6 * order.count) padding
+pub not_ended : {D V : Type 0} (meaning : DiskMeaning D) (known : IssueFilesKnown D) (asked : Written) (s : Streams) (order : Order)
+    (padding : List ℕ) (disk : D) (ended : Result V IssueFault) → IsOrderOf (order_in asked) order → IsFrontRead known.random (6 * order.count) padding
     → IsLedgerOpened meaning known.ledger disk
-    → IfErr ended (IsNotIssuedTo (disk_log_meaning meaning) known.making (option_copied arguments.way.out)
-    (issue_task order (if_issued_in arguments.way) padding) (issuing (new_disk_log disk) s))
-    → IfErr ended (HasNotIssuedFiles meaning known arguments s)
-not_ended meaning known arguments s order padding disk (Ok done) read padding_read opened is = tt
-not_ended meaning known arguments s order padding disk (Err why) read padding_read opened is = inr (inr (inr (record {
+    → IfErr ended (IsNotIssuedTo (disk_log_meaning meaning) known.making (value_in (codes "out") asked)
+    (issue_task order (if_issued_in asked) padding) (issuing (new_disk_log disk) s))
+    → IfErr ended (HasNotIssuedFiles meaning known asked s)
+not_ended meaning known asked s order padding disk (Ok done) read padding_read opened is = tt
+not_ended meaning known asked s order padding disk (Err why) read padding_read opened is = inr (inr (inr (record {
   order = order;
   read = read;
   padding = padding;

@@ -1,12 +1,15 @@
 mod AsItems
 mod CommandLines
 mod Ends
+mod Entries
 mod InputRead
 mod Issued
 mod ByRequest
 mod Marked
 mod Noted
+mod Messages
 mod Own
+mod Refusals
 mod ShownLogs
 mod ShownText
 mod Words

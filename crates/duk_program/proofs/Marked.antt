@@ -3,8 +3,9 @@ use Rattle.std.proofs.Common.{◌≡◌, ◌∷◌, ◌∙◌, ◌+◌, List, []
 use Rattle.std.proofs.lemmas.List.{take-map}
 use Rattle.std.specs.List.{prefix_len}
 use Rattle.std.specs.Option.{unwrap_or}
+use Rattle.std.specs.Str.{bytes_eq}
 use Rattle.duk_arguments.specs.Asked.{texts_of}
-use Rattle.duk_program.specs.Explain.{before_end, explain_place, is_end, is_explain}
+use Rattle.duk_program.specs.Options.{before_end, is_end, option_place}
 
 -- the texts of arguments without one are the texts without that one
 pub texts_without : {A : Type 0} (arguments : List (String A)) (place : ℕ) → texts_of (remove arguments place) ≡ remove (texts_of arguments) place
@@ -41,10 +42,10 @@ texts_before_end arguments end is =
     ∙ ap (λ count. take count (texts_of arguments)) (is ∙ ap (λ place. unwrap_or place (length arguments)) (place_of_texts is_end arguments)
     ∙ ap (unwrap_or (position is_end (texts_of arguments))) (count_of_texts arguments))
 
--- the place of `--explain` among arguments, by that among the words before the end
-pub place_of_marked : {A : Type 0} (arguments : List (String A)) (name : String A) (words before : List (String A)) (place : Option ℕ) → arguments ≡ name ∷ words
-    → texts_of before ≡ before_end (texts_of words) → place ≡ position (λ word. is_explain (string_bytes word)) before
-    → option_map (λ place. place + 1) place ≡ explain_place (texts_of arguments)
-place_of_marked arguments name words before place are same is =
-    ap (option_map (λ place. place + 1)) (is ∙ place_of_texts is_explain before ∙ ap (position is_explain) same)
-    ∙ ap (λ those. explain_place (texts_of those)) (sym are)
+-- the place of an option among arguments, by that among the words before the end
+pub place_of_marked : {A : Type 0} (option : List ℕ) (arguments : List (String A)) (name : String A) (words before : List (String A)) (place : Option ℕ) → arguments ≡ name ∷ words
+    → texts_of before ≡ before_end (texts_of words) → place ≡ position (λ word. bytes_eq (string_bytes word) option) before
+    → option_map (λ place. place + 1) place ≡ option_place option (texts_of arguments)
+place_of_marked option arguments name words before place are same is =
+    ap (option_map (λ place. place + 1)) (is ∙ place_of_texts (λ word. bytes_eq word option) before ∙ ap (position (λ word. bytes_eq word option)) same)
+    ∙ ap (λ those. option_place option (texts_of those)) (sym are)

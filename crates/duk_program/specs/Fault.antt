@@ -1,10 +1,12 @@
 -- The lines of the faults with which the program ends (this project's own).
 use Rattle.std.specs.Prelude.{ℕ, Bool, false, true, List, codes}
-use Rattle.duk_batch.specs.Batch.{batch_line}
+use Rattle.duk_commands.specs.Batch.{batch_line}
 use Rattle.duk_commands.specs.Fault.{report_line}
+use Rattle.duk_commands.specs.FindFault.{find_line}
+use Rattle.duk_commands.specs.IssueFault.{issue_line}
 use Rattle.duk_io.specs.Known.{Known}
 use Rattle.duk_io.specs.Sink.{IsTried}
-use Rattle.duk_issue.specs.Fault.{issue_line}
+use Rattle.duk_program.specs.Message.{text_fault_line}
 use Rattle.duk_program.specs.Secrets.{secret_line}
 use Rattle.duk_program.specs.declared.fault.Fault.{Fault}
 use Rattle.duk_program.specs.declared.fault.Fault.TheVariants as fault
@@ -13,7 +15,6 @@ use Rattle.duk_service.specs.CopyJournal.{copy_journal_line}
 use Rattle.duk_service.specs.NewFile.{new_file_line}
 use Rattle.duk_service.specs.ServeFault.{serve_fault_line}
 use Rattle.duk_show.specs.Fault.{show_line}
-use Rattle.duk_tools.specs.FindFault.{find_line}
 
 -- the line of a fault, or both lines of two: it is made of the fault alone
 abbrev pub fault_text : Fault → List ℕ
@@ -23,6 +24,7 @@ fault_text (fault.Show why) = show_line why
 fault_text (fault.Issue why) = issue_line why
 fault_text (fault.Batch why) = batch_line why
 fault_text (fault.Secret why) = secret_line why
+fault_text (fault.Text why) = text_fault_line why
 fault_text fault.ConfigUnread = codes "config: cannot read\n"
 fault_text (fault.Script why) = fault_line why
 fault_text (fault.Serve why) = serve_fault_line why

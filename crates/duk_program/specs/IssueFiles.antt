@@ -1,48 +1,40 @@
 -- What `issue` does over the file of its ledger (this project's own, over what it does with a
 -- ledger).
 use Rattle.std.specs.Prelude.{◌≡◌, ◌⊎◌, ◌*◌, ⊤, ℕ, zero, suc, Bool, true, false, List, Option, Some, None, codes, if◌then◌else◌}
-use Rattle.std.specs.Borrow.{Bor}
-use Rattle.std.specs.Option.{option_copied}
 use Rattle.duk_program.specs.declared.issue_files.IfIssued.{IfIssued}
 use Rattle.duk_program.specs.declared.issue_files.IfIssued.TheVariants as if_issued
-use Rattle.duk_arguments.specs.declared.request.IssueWay.{IssueWay}
+use Rattle.duk_arguments.specs.Request.{Written, flag_in, text_in, value_in}
 use Rattle.duk_commands.specs.Answer.{Streams, streams}
 use Rattle.duk_commands.specs.HandedOn.{HasFailed, IsFlushLost}
 use Rattle.duk_io.specs.Known.{Known}
 use Rattle.duk_io.specs.Sink.{IsTried, IsUntouched}
-use Rattle.duk_issue.specs.Again.{AreMadeAgain, NotMadeAgain}
-use Rattle.duk_issue.specs.Issue.{Ends, HasIssuedBut, IssueFailed, ends, job}
-use Rattle.duk_issue.specs.Lines.{passed_over_line}
-use Rattle.duk_issue.specs.Order.{IsOrderOf, IsOrderRefused, OrderArguments, order_arguments}
-use Rattle.duk_issue.specs.declared.fault.IssueFault.{IssueFault}
-use Rattle.duk_issue.specs.declared.fault.IssueFault.TheVariants as fault
-use Rattle.duk_issue.specs.declared.order.Order.{Order}
+use Rattle.duk_commands.specs.Again.{AreMadeAgain, NotMadeAgain}
+use Rattle.duk_commands.specs.Issue.{Ends, HasIssuedBut, IssueFailed, ends, job}
+use Rattle.duk_commands.specs.IssuedLines.{passed_over_line}
+use Rattle.duk_commands.specs.Order.{IsOrderOf, IsOrderRefused, OrderArguments, order_arguments}
+use Rattle.duk_commands.specs.declared.issue.fault.IssueFault.{IssueFault}
+use Rattle.duk_commands.specs.declared.issue.fault.IssueFault.TheVariants as fault
+use Rattle.duk_commands.specs.declared.issue.order.Order.{Order}
 use Rattle.duk_service.specs.Files.{FileKnown, IsFrontRead, IsShorterThan}
 use Rattle.duk_service.specs.LogFiles.{AreLinesMade, AreNoLines, DiskKnown, LinesKnown, MakingKnown}
 use Rattle.duk_service.specs.OwnFiles.{IsNoOwnDisk, IsOwnDisk}
 use Rattle.duk_service.specs.declared.left_records.RecordFormat.TheVariants.{Log}
 use Rattle.duk_service.specs.declared.own_files.OpenFault.TheVariants as open_fault
-use Rattle.duk_program.specs.declared.issue_files.IssueArguments.{IssueArguments}
 use Rattle.duk_store.specs.Disk.{DiskMeaning}
 use Rattle.duk_store.specs.DiskLog.{disk_log_meaning, new_disk_log}
 use Rattle.duk_store.specs.Log.{LogMeaning}
 
--- the arguments of `issue`
-abbrev pub issue_arguments : Bor (List ℕ) → Bor (List ℕ) → Bor (List ℕ) → Bor (List ℕ) → IssueWay
-    → IssueArguments
-issue_arguments bdk loading iksn count way =
-    record { bdk = bdk; loading = loading; iksn = iksn; count = count; way = way }
+-- the order of a request
+abbrev pub order_in : Written → OrderArguments
+order_in asked = order_arguments (text_in (codes "BDK") asked) (text_in (codes "LOADING") asked)
+    (text_in (codes "IKSN") asked) (text_in (codes "COUNT") asked)
+    (value_in (codes "bdk-kcv") asked)
 
--- those of the order
-abbrev pub order_in : IssueArguments → OrderArguments
-order_in arguments = order_arguments arguments.bdk.now arguments.loading.now arguments.iksn.now
-    arguments.count.now (option_copied arguments.way.kcv)
-
--- what becomes of issued numbers, by what the arguments say
-abbrev pub if_issued_in : IssueWay → IfIssued
-if_issued_in way =
-    if way.again then if_issued.MakeAgain
-    else if way.skip_issued then if_issued.PassOver
+-- what becomes of issued numbers, by what the request says
+abbrev pub if_issued_in : Written → IfIssued
+if_issued_in asked =
+    if flag_in (codes "again") asked then if_issued.MakeAgain
+    else if flag_in (codes "skip-issued") asked then if_issued.PassOver
     else if_issued.Refuse
 
 -- they are passed over
@@ -209,25 +201,25 @@ IsLedgerUnopened meaning known _ = ⊥
 -- the arguments are read; there is padding of the system's random device, six bytes for each key;
 -- and the disk of the ledger's file is opened
 pub record IsBegun {D : Type 0} (meaning : DiskMeaning D) (known : IssueFilesKnown D)
-    (arguments : IssueArguments) (Ends : IssueTask → D → Type 0) : Type 0 where
+    (asked : Written) (Ends : IssueTask → D → Type 0) : Type 0 where
   pub order : Order
-  pub read : IsOrderOf (order_in arguments) order
+  pub read : IsOrderOf (order_in asked) order
   pub padding : List ℕ
   pub padding_read : IsFrontRead known.random (6 * order.count) padding
   pub disk : D
   pub opened : IsLedgerOpened meaning known.ledger disk
-  pub end : Ends (issue_task order (if_issued_in arguments.way) padding) disk
+  pub end : Ends (issue_task order (if_issued_in asked) padding) disk
 
 -- all keys are issued over the ledger of the file
-abbrev pub HasIssuedFiles : {D : Type 0} → DiskMeaning D → IssueFilesKnown D → IssueArguments → Streams
+abbrev pub HasIssuedFiles : {D : Type 0} → DiskMeaning D → IssueFilesKnown D → Written → Streams
     → Type 0
-HasIssuedFiles meaning known arguments s = IsBegun meaning known arguments
+HasIssuedFiles meaning known asked s = IsBegun meaning known asked
     (λ task disk. IsIssuedTo (disk_log_meaning meaning) known.making
-    (option_copied arguments.way.out) task (issuing (new_disk_log disk) s))
+    (value_in (codes "out") asked) task (issuing (new_disk_log disk) s))
 
 -- the arguments are refused, and nothing is written
-pub record HasNoOrder (arguments : IssueArguments) (s : Streams) (why : IssueFault) : Type 0 where
-  pub cause : IsOrderRefused (order_in arguments) why
+pub record HasNoOrder (asked : Written) (s : Streams) (why : IssueFault) : Type 0 where
+  pub cause : IsOrderRefused (order_in asked) why
   pub untold : IsUntold s
 
 -- why there is no padding for so many keys; memory may be refused at any time
@@ -237,27 +229,29 @@ IsPaddingRefused random count fault.OutOfMemory = ⊤
 IsPaddingRefused random count why = ⊥
 
 -- there is an order, no padding for it, and nothing is written
-pub record HasNoPadding (random : FileKnown) (arguments : IssueArguments) (s : Streams)
+pub record HasNoPadding (random : FileKnown) (asked : Written) (s : Streams)
     (why : IssueFault) : Type 0 where
   pub order : Order
-  pub read : IsOrderOf (order_in arguments) order
+  pub read : IsOrderOf (order_in asked) order
   pub cause : IsPaddingRefused random order.count why
   pub untold : IsUntold s
 
--- there is an order, the ledger's file is not opened, and nothing is written
-pub record HasNoLedger {D : Type 0} (meaning : DiskMeaning D) (known : DiskKnown D)
-    (arguments : IssueArguments) (s : Streams) (why : IssueFault) : Type 0 where
+-- there is an order, and padding for it, the ledger's file is not opened, and nothing is written
+pub record HasNoLedger {D : Type 0} (meaning : DiskMeaning D) (known : IssueFilesKnown D)
+    (asked : Written) (s : Streams) (why : IssueFault) : Type 0 where
   pub order : Order
-  pub read : IsOrderOf (order_in arguments) order
-  pub cause : IsLedgerUnopened meaning known why
+  pub read : IsOrderOf (order_in asked) order
+  pub padding : List ℕ
+  pub padding_read : IsFrontRead known.random (6 * order.count) padding
+  pub cause : IsLedgerUnopened meaning known.ledger why
   pub untold : IsUntold s
 
 -- why the keys are not issued: the first of these
-abbrev pub HasNotIssuedFiles : {D : Type 0} → DiskMeaning D → IssueFilesKnown D → IssueArguments → Streams
+abbrev pub HasNotIssuedFiles : {D : Type 0} → DiskMeaning D → IssueFilesKnown D → Written → Streams
     → IssueFault → Type 0
-HasNotIssuedFiles meaning known arguments s why =
-    HasNoOrder arguments s why ⊎ HasNoPadding known.random arguments s why
-    ⊎ HasNoLedger meaning known.ledger arguments s why
-    ⊎ IsBegun meaning known arguments
+HasNotIssuedFiles meaning known asked s why =
+    HasNoOrder asked s why ⊎ HasNoPadding known.random asked s why
+    ⊎ HasNoLedger meaning known asked s why
+    ⊎ IsBegun meaning known asked
     (λ task disk. IsNotIssuedTo (disk_log_meaning meaning) known.making
-    (option_copied arguments.way.out) task (issuing (new_disk_log disk) s) why)
+    (value_in (codes "out") asked) task (issuing (new_disk_log disk) s) why)

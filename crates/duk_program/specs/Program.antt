@@ -1,14 +1,14 @@
 -- What a run of the program does (this project's own, over what it does for a request).
-use Rattle.std.specs.Prelude.{◌⊎◌, ℕ, Bool, List}
+use Rattle.std.specs.Prelude.{◌≡◌, ◌⊎◌, ℕ, Bool, List}
 use Rattle.duk_arguments.specs.Asked.{AskForHelp, Asks}
-use Rattle.duk_arguments.specs.declared.request.Request.{Request}
+use Rattle.duk_arguments.specs.Request.{Written}
 use Rattle.duk_commands.specs.Fault.{report_line}
 use Rattle.duk_commands.specs.HandedOn.{HasHandedOn, HasLost}
 use Rattle.duk_commands.specs.declared.fault.Fault.TheVariants.{OutOfMemory, WriteFailed}
 use Rattle.duk_io.specs.Known.{Known}
 use Rattle.duk_io.specs.Sink.{IsCut, IsTried, IsUntouched, IsWritten}
 use Rattle.duk_program.specs.Fault.{IsTold}
-use Rattle.duk_program.specs.Meant.{IsRequestDone, IsRequestNotDone}
+use Rattle.duk_program.specs.Meant.{HasLeftInput, IsRequestDone, IsRequestNotDone}
 use Rattle.duk_program.specs.Scene.{Scene, scene, writers_of}
 use Rattle.duk_program.specs.declared.fault.Fault.{Fault}
 use Rattle.duk_commands.specs.Answer.{Streams}
@@ -20,7 +20,7 @@ until s between = scene s.held s.disks s.making s.streams s.fault_before between
 
 -- a request is not done, and then its fault is told
 pub record IsToldAfter {D : Type 0} (explained : Bool)
-    (NotDone : Scene D → Request → Fault → Type 0) (s : Scene D) (asked : Request) : Type 0 where
+    (NotDone : Scene D → Written → Fault → Type 0) (s : Scene D) (asked : Written) : Type 0 where
   pub why : Fault
   pub between : Known
   pub not_done : NotDone (until s between) asked why
@@ -56,25 +56,28 @@ abbrev pub IsNotShown : List (List ℕ) → Streams → Type 0
 IsNotShown arguments s = HasNoMemory s ⊎ HasShownInPart arguments s
 
 -- the arguments ask for a request that is done
-pub record HasDone {D : Type 0} (explained : Bool) (meaning : DiskMeaning D)
+pub record HasDone {D : Type 0} (status : ℕ) (explained : Bool) (meaning : DiskMeaning D)
     (arguments : List (List ℕ)) (s : Scene D) : Type 0 where
-  pub request : Request
+  pub request : Written
   pub asked : Asks arguments request
-  pub done : IsRequestDone explained meaning s request
+  pub done : IsRequestDone status explained meaning s request
 
--- status 0
-abbrev pub IsProgramDone : {D : Type 0} → Bool → DiskMeaning D → List (List ℕ) → Scene D → Type 0
-IsProgramDone explained meaning arguments s =
-    HasDone explained meaning arguments s ⊎ HasShown arguments (writers_of s)
+-- status 0, or 3 of a refusal
+abbrev pub IsProgramDone : {D : Type 0} → ℕ → Bool → DiskMeaning D → List (List ℕ) → Scene D
+    → Type 0
+IsProgramDone status explained meaning arguments s =
+    HasDone status explained meaning arguments s
+    ⊎ ((status ≡ 0) × HasLeftInput s.streams (HasShown arguments (writers_of s)))
 
 -- the arguments ask for a request that is not done, and that is told
 pub record HasNotDone {D : Type 0} (explained : Bool) (meaning : DiskMeaning D)
     (arguments : List (List ℕ)) (s : Scene D) : Type 0 where
-  pub request : Request
+  pub request : Written
   pub asked : Asks arguments request
   pub not_done : IsToldAfter explained (IsRequestNotDone explained meaning) s request
 
 -- status 1
 abbrev pub IsProgramNotDone : {D : Type 0} → Bool → DiskMeaning D → List (List ℕ) → Scene D → Type 0
 IsProgramNotDone explained meaning arguments s =
-    HasNotDone explained meaning arguments s ⊎ IsNotShown arguments (writers_of s)
+    HasNotDone explained meaning arguments s
+    ⊎ HasLeftInput s.streams (IsNotShown arguments (writers_of s))

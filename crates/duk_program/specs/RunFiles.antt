@@ -11,7 +11,7 @@ use Rattle.duk_program.specs.Configured.{IsConfigRefused, IsConfigured}
 use Rattle.duk_program.specs.Run.{HasNotPlayed, HasPlayed, IsDoneOver, IsRefusedOver}
 use Rattle.duk_program.specs.declared.fault.Fault.{Fault}
 use Rattle.duk_program.specs.declared.fault.Fault.TheVariants as fault
-use Rattle.duk_service.specs.Files.{FileKnown, IsFileUnread, HasBytes}
+use Rattle.duk_service.specs.Files.{FileKnown, IsFileRead, IsFileUnread}
 use Rattle.duk_service.specs.declared.file_system.FileFault.{FileFault}
 use Rattle.duk_service.specs.declared.file_system.FileFault.TheVariants as file
 
@@ -38,7 +38,7 @@ pub record HasRunFiles (r : FileRun) : Type 0 where
   pub config : Settings
   pub configured : IsConfigured r.config_held config
   pub script : List ℕ
-  pub script_held : HasBytes r.script_held script
+  pub script_read : IsFileRead r.script_held longest_file script
   pub run : HasPlayed (IsDoneOver r.journal config script r.output_before) r.output_after
 
 -- the fault where the file of a script is not read
@@ -67,7 +67,7 @@ pub record HasFailedRun (r : FileRun) (why : Fault) : Type 0 where
   pub config : Settings
   pub configured : IsConfigured r.config_held config
   pub script : List ℕ
-  pub script_held : HasBytes r.script_held script
+  pub script_read : IsFileRead r.script_held longest_file script
   pub cause : ScriptFault
   pub why_is : why ≡ fault.Script cause
   pub run : HasNotPlayed (IsDoneOver r.journal config script r.output_before)

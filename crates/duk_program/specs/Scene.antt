@@ -1,7 +1,7 @@
 -- What a run of the program stands on: files, disks and streams (this project's own).
 use Rattle.std.specs.Prelude.{ℕ, List}
-use Rattle.duk_batch.specs.Batch.{Input, input_of}
 use Rattle.duk_commands.specs.Answer.{Streams, streams}
+use Rattle.duk_commands.specs.Batch.{Input, input_of}
 use Rattle.duk_host.specs.Serve.{Supply}
 use Rattle.duk_io.specs.Known.{Known}
 use Rattle.duk_service.specs.Files.{FileKnown}

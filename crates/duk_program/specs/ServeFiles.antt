@@ -1,7 +1,6 @@
 -- What `serve` answers over files (this project's own).
-use Rattle.std.specs.Prelude.{◌≡◌, ◌⊎◌, ℕ, List}
-use Rattle.duk_arguments.specs.declared.request.Kept.{Kept}
-use Rattle.duk_arguments.specs.declared.request.Kept.TheVariants.{InJournal, InLog, InMemory}
+use Rattle.std.specs.Prelude.{◌≡◌, ◌⊎◌, Option, Some, None, codes, List, ℕ}
+use Rattle.duk_arguments.specs.Request.{Written, value_in}
 use Rattle.duk_config.specs.NewHost.{new_host_of}
 use Rattle.duk_config.specs.Settings.{Settings}
 use Rattle.duk_program.specs.Configured.{IsConfigRefused, IsConfigured}
@@ -22,11 +21,16 @@ pub data KeptKnown (D : Type 0) : Type 0 where
   in_log : DiskKnown D → KeptKnown D
   in_journal : DiskKnown D → KeptKnown D
 
--- the same, by what is known of the disk under each path
-abbrev pub kept_known : {D : Type 0} → (List ℕ → DiskKnown D) → Kept → KeptKnown D
-kept_known disks InMemory = in_memory
-kept_known disks (InLog path) = in_log (disks path.now)
-kept_known disks (InJournal path) = in_journal (disks path.now)
+-- the same, by the paths of a log and of a journal, where there are any
+abbrev pub kept_by : {D : Type 0} → (List ℕ → DiskKnown D) → Option (List ℕ) → Option (List ℕ) → KeptKnown D
+kept_by disks (Some log) journal = in_log (disks log)
+kept_by disks None (Some journal) = in_journal (disks journal)
+kept_by disks None None = in_memory
+
+-- where a request keeps them
+abbrev pub kept_in : {D : Type 0} → (List ℕ → DiskKnown D) → Written → KeptKnown D
+kept_in disks asked =
+    kept_by disks (value_in (codes "log") asked) (value_in (codes "journal") asked)
 
 -- what the file of a configuration holds, where the used numbers are kept, and what the reader of
 -- frames and the writer of answers make known

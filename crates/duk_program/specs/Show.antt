@@ -1,10 +1,12 @@
 -- What `show` prints (this project's own, over what each kind of text says).
-use Rattle.std.specs.Prelude.{◌≡◌, ◌≢◌, ◌⊎◌, ◌^◌, ⊤, ℕ, Bool, List, None, Option, Some, codes}
+use Rattle.std.specs.Prelude.{◌≡◌, ◌≢◌, ◌⊎◌, ◌^◌, ⊤, ℕ, Bool, List, None, Option, Some, codes, false, true}
+use Rattle.duk_arguments.specs.Request.{Written, flag_in, text_in}
 use Rattle.duk_commands.specs.HandedOn.{HasFailed, HasHandedOn}
 use Rattle.duk_commands.specs.declared.fault.Fault.TheVariants.{WriteFailed}
 use Rattle.duk_commands.specs.declared.key_argument.KeyArgument.{KeyArgument}
 use Rattle.duk_io.specs.Known.{Known}
 use Rattle.duk_io.specs.Sink.{IsCut, IsUntouched, IsWritten}
+use Rattle.duk_program.specs.Commands.{IsKeyOf}
 use Rattle.duk_program.specs.declared.fault.Fault.{Fault}
 use Rattle.duk_program.specs.declared.fault.Fault.TheVariants as fault
 use Rattle.duk_service.specs.Files.{FileKnown, HasBytes, IsLongerThan, IsUnreadableFile}
@@ -36,6 +38,17 @@ pub record ShowArguments : Type 0 where
 abbrev pub show_arguments : List ℕ → List ℕ → Bool → Option KeyArgument → FileKnown → ShowArguments
 show_arguments kind what show key held =
     record { kind = kind; what = what; show = show; key = key; held = held }
+
+-- those of a request
+abbrev pub show_asked : Written → Option KeyArgument → FileKnown → ShowArguments
+show_asked asked key held = show_arguments (text_in (codes "KIND") asked)
+    (text_in (codes "WHAT") asked) (flag_in (codes "show") asked) key held
+
+-- the key that a request has for the MAC of a frame, where it has one
+abbrev pub IsKeyOfFrame : Written → Option KeyArgument → Type 0
+IsKeyOfFrame asked None = flag_in (codes "key") asked ≡ false
+IsKeyOfFrame asked (Some key) = (flag_in (codes "key") asked ≡ true)
+    × IsKeyOf (text_in (codes "key") asked) (flag_in (codes "initial") asked) key
 
 -- the lines of a frame, whose MAC is tested where there is a key
 abbrev pub IsFrameShown : List ℕ → Bool → Option KeyArgument → List ℕ → Type 0
@@ -149,3 +162,13 @@ HasShownText arguments old = HasHandedOn (IsShown arguments old)
 abbrev pub HasNotShownText : ShowArguments → Known → Fault → Known → Type 0
 HasNotShownText arguments old =
     HasFailed (IsShown arguments old) (IsNotShown arguments old) (fault.Command WriteFailed)
+
+-- what the arguments of a request ask to be shown is shown
+abbrev pub HasShownAsked : Written → FileKnown → Known → Known → Type 0
+HasShownAsked asked held old new = (key : Option KeyArgument) × IsKeyOfFrame asked key
+    × HasShownText (show_asked asked key held) old new
+
+-- why it is not
+abbrev pub HasNotShownAsked : Written → FileKnown → Known → Fault → Known → Type 0
+HasNotShownAsked asked held old why new = (key : Option KeyArgument) × IsKeyOfFrame asked key
+    × HasNotShownText (show_asked asked key held) old why new

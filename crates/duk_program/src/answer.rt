@@ -1,29 +1,30 @@
 //! Does the command of a request whose secrets are written as they are.
 
-ghost use Rattle.std.specs.Prelude.{◌≡◌, IfErr, OnOk};
+ghost use Rattle.std.specs.Prelude.{◌≡◌, IfErr, OnOk, codes};
+ghost use Rattle.duk_arguments.specs.Request.{text_in};
 ghost use Rattle.duk_io.specs.Known.{Known};
 ghost use Rattle.duk_io.specs.Sink.{IsHandedOn};
-ghost use Rattle.duk_program.specs.Meant.{AreItemsDone, AreItemsNotDone, IsAnswered, IsDoneAlone, IsDoneUntold, IsNotAnswered, IsNotDoneAlone, IsNotDoneUntold};
+ghost use Rattle.duk_program.specs.Meant.{AreAllAnswered, AreItemsDone, AreItemsNotDone, AreNotAllAnswered, IsAnswered, IsDoneAlone, IsDoneOverMessage, IsDoneUntold, IsNotAnswered, IsNotDoneAlone, IsNotDoneOverMessage, IsNotDoneUntold};
 ghost use Rattle.duk_program.specs.Own.{MayUseOwn};
 ghost use Rattle.duk_program.specs.Scene.{scene};
 ghost use Rattle.duk_program.specs.declared.fault.Fault.TheVariants.{NewFile};
-ghost use Rattle.duk_program.specs.inner.Commands.{TellsNothing};
+ghost use Rattle.duk_program.specs.inner.Commands.{IsOverMessage, TellsNothing};
 ghost use Rattle.duk_program.specs.inner.Items.{items_in};
 ghost use Rattle.duk_service.specs.NewFile.{HasMadeFile, IsNewFileRefused};
 ghost use Rattle.duk_service.specs.Serve.{serving_of};
 ghost use Rattle.duk_service.specs.declared.new_file.NewFileFault.{NewFileFault};
 
-use crate::commands::do_command;
+use crate::commands::{do_command, do_over_message};
 use crate::fault::Fault;
-use crate::find::{FindWords, find_made};
-use crate::issue_files::{IssueArguments, issue_files};
+use crate::find::find_made;
+use crate::issue_files::issue_files;
 use crate::items::{LineItems, line_command};
+use crate::message::read_message;
 use crate::run_files::run_files;
 use crate::serve_files::serve_files;
-use crate::show::show_text;
-use duk_arguments::Request;
-use duk_batch::{BatchFault, do_batch};
-use duk_commands::{KeyArgument, hand_on};
+use crate::show::show_asked;
+use duk_arguments::{CommandName, Request};
+use duk_commands::{BatchFault, do_batch, hand_on};
 use duk_io::{Sink, Source};
 use duk_service::copy_journal::copy_journal;
 use duk_service::new_file::new_file;
@@ -36,25 +37,25 @@ use std::alloc::Global;
 pub(crate) fn answer<S: FileSystem + LogFiles, R: Source, W: Sink, F: Sink>(
     alloc: Global,
     files: &S,
-    request: Request<'_>,
+    request: &Request<'_>,
     explain: bool,
     input: &mut R,
     output: &mut W,
     fault: &mut F,
 ) -> Result<(), Fault>
-    requires { MayUseOwn (S.may_write files.now) (S.may_make files.now) request }
+    requires { MayUseOwn (S.may_write files.now) (S.may_make files.now) request.now }
     ensures done { OnOk result (IsAnswered explain S.Disk.meaning (scene (S.held files.now)
         (S.disks files.now) (S.making files.now) (serving_of R.known R.reads W.known input.old
-        input.new output.old output.new) (F.known fault.old) (F.known fault.new)) request.entry) }
+        input.new output.old output.new) (F.known fault.old) (F.known fault.new)) request.now) }
     ensures handed_on { OnOk result
         (IsHandedOn (W.held_back output.old) → IsHandedOn (W.held_back output.new)) }
     ensures not_done { IfErr result (IsNotAnswered explain S.Disk.meaning (scene
         (S.held files.now) (S.disks files.now) (S.making files.now) (serving_of R.known R.reads
         W.known input.old input.new output.old output.new) (F.known fault.old)
-        (F.known fault.new)) request.entry) }
+        (F.known fault.new)) request.now) }
 {
     duk_io::laws::writes();
-    match line_command(&request) {
+    match line_command(request) {
         Some(command) => {
             let items = LineItems {
                 request,
@@ -67,7 +68,8 @@ pub(crate) fn answer<S: FileSystem + LogFiles, R: Source, W: Sink, F: Sink>(
     }
 }
 
-/// Does a command over each line of the input, and hands on the answers.
+/// Does a command over each line of the input. What it has beside its items is tested before anything
+/// is read.
 fn answer_items<R: Source, W: Sink>(
     alloc: Global,
     items: &LineItems<'_>,
@@ -81,72 +83,61 @@ fn answer_items<R: Source, W: Sink>(
         (items_in items.now.command)
         (serving_of R.known R.reads W.known input.old input.new output.old output.new)) }
 {
-    let ended = do_batch(alloc, items, input, output);
-    match hand_on(ended, BatchFault::WriteFailed, output) {
-        Ok(()) => Ok(()),
-        Err(why) => Err(Fault::Batch(why)),
+    match items.command.ready() {
+        Ok(()) => match answer_all(alloc, items, input, output) {
+            Ok(()) => Ok(()),
+            Err(why) => Err(Fault::Batch(why)),
+        },
+        Err(why) => Err(Fault::Command(why)),
     }
+}
+
+/// Answers each line of the input, and hands the answers on.
+fn answer_all<R: Source, W: Sink>(
+    alloc: Global,
+    items: &LineItems<'_>,
+    input: &mut R,
+    output: &mut W,
+) -> Result<(), BatchFault>
+    ensures done { OnOk result (AreAllAnswered items.now.explain (items_in items.now.command)
+        (serving_of R.known R.reads W.known input.old input.new output.old output.new)) }
+    ensures handed_on { OnOk result (IsHandedOn (W.held_back output.new)) }
+    ensures not_done { IfErr result (AreNotAllAnswered items.now.explain
+        (items_in items.now.command)
+        (serving_of R.known R.reads W.known input.old input.new output.old output.new)) }
+{
+    let ended = do_batch(alloc, items, input, output);
+    hand_on(ended, BatchFault::WriteFailed, output)
 }
 
 /// Does the command of a request over its arguments, files and streams alone.
 fn answer_alone<S: FileSystem + LogFiles, R: Source, W: Sink, F: Sink>(
     alloc: Global,
     files: &S,
-    request: Request<'_>,
+    request: &Request<'_>,
     input: &mut R,
     output: &mut W,
     fault: &mut F,
 ) -> Result<(), Fault>
-    requires { MayUseOwn (S.may_write files.now) (S.may_make files.now) request }
+    requires { MayUseOwn (S.may_write files.now) (S.may_make files.now) request.now }
     ensures done { OnOk result (IsDoneAlone S.Disk.meaning (scene (S.held files.now)
         (S.disks files.now) (S.making files.now) (serving_of R.known R.reads W.known input.old
-        input.new output.old output.new) (F.known fault.old) (F.known fault.new)) request.entry) }
+        input.new output.old output.new) (F.known fault.old) (F.known fault.new)) request.now) }
     ensures handed_on { OnOk result
         (IsHandedOn (W.held_back output.old) → IsHandedOn (W.held_back output.new)) }
     ensures not_done { IfErr result (IsNotDoneAlone S.Disk.meaning (scene
         (S.held files.now) (S.disks files.now) (S.making files.now) (serving_of R.known R.reads
         W.known input.old input.new output.old output.new) (F.known fault.old)
-        (F.known fault.new)) request.entry) }
+        (F.known fault.new)) request.now) }
 {
     duk_io::laws::writes();
-    match request {
-        Request::Find {
-            bdk,
-            what,
-            sought,
-            window,
-            initial,
-        } => {
-            let words = FindWords {
-                bdk,
-                what,
-                sought,
-                window,
-                initial,
-            };
-            find_made(alloc, &words, output, fault)
-        }
-        Request::Issue {
-            bdk,
-            loading,
-            iksn,
-            count,
-            ledger,
-            way,
-        } => {
-            let arguments = IssueArguments {
-                bdk,
-                loading,
-                iksn,
-                count,
-                way,
-            };
-            match issue_files(alloc, files, &arguments, ledger, output, fault) {
-                Ok(()) => Ok(()),
-                Err(why) => Err(Fault::Issue(why)),
-            }
-        }
-        request => answer_untold(alloc, files, request, input, output),
+    match request.command() {
+        CommandName::Find => find_made(alloc, files, request, input, output, fault),
+        CommandName::Issue => match issue_files(alloc, files, request, output, fault) {
+            Ok(()) => Ok(()),
+            Err(why) => Err(Fault::Issue(why)),
+        },
+        _ => answer_untold(alloc, files, request, input, output),
     }
 }
 
@@ -154,54 +145,70 @@ fn answer_alone<S: FileSystem + LogFiles, R: Source, W: Sink, F: Sink>(
 fn answer_untold<S: FileSystem + LogFiles, R: Source, W: Sink>(
     alloc: Global,
     files: &S,
-    request: Request<'_>,
+    request: &Request<'_>,
     input: &mut R,
     output: &mut W,
 ) -> Result<(), Fault>
-    requires own { MayUseOwn (S.may_write files.now) (S.may_make files.now) request }
-    requires untold { TellsNothing request }
+    requires own { MayUseOwn (S.may_write files.now) (S.may_make files.now) request.now }
+    requires untold { TellsNothing request.now.command }
     ensures done { (before after : Known) → OnOk result (IsDoneUntold S.Disk.meaning
         (scene (S.held files.now) (S.disks files.now) (S.making files.now) (serving_of R.known
-        R.reads W.known input.old input.new output.old output.new) before after) request.entry) }
+        R.reads W.known input.old input.new output.old output.new) before after)
+        request.now.command request.now) }
     ensures handed_on { OnOk result
         (IsHandedOn (W.held_back output.old) → IsHandedOn (W.held_back output.new)) }
     ensures not_done { (before after : Known) → IfErr result (IsNotDoneUntold S.Disk.meaning
         (scene (S.held files.now) (S.disks files.now) (S.making files.now) (serving_of R.known
-        R.reads W.known input.old input.new output.old output.new) before after) request.entry) }
+        R.reads W.known input.old input.new output.old output.new) before after)
+        request.now.command request.now) }
 {
-    match request {
-        Request::Run {
-            config,
-            script,
-            journal,
-        } => run_files(alloc, files, config, script, journal, output),
-        Request::Serve { config, kept } => {
-            serve_files(alloc, files, config, kept, input, output)
+    match request.command() {
+        CommandName::Run => run_files(
+            alloc,
+            files,
+            request.text("CONFIG"),
+            request.text("SCRIPT"),
+            request.flag("journal"),
+            output,
+        ),
+        CommandName::Serve => serve_files(alloc, files, request, input, output),
+        CommandName::NewLog => make_file(alloc, files, RecordFormat::Log, request),
+        CommandName::NewJournal => make_file(alloc, files, RecordFormat::Journal, request),
+        CommandName::CopyJournal => {
+            match copy_journal(alloc, files, request.text("OLD"), request.text("NEW")) {
+                Ok(()) => Ok(()),
+                Err(why) => Err(Fault::CopyJournal(why)),
+            }
         }
-        Request::NewLog { file, records } => {
-            make_file(alloc, files, RecordFormat::Log, file, records)
+        CommandName::Show => show_asked(alloc, files, request, output),
+        CommandName::Mac | CommandName::Data => {
+            answer_message(alloc, files, request, input, output)
         }
-        Request::NewJournal { file, records } => {
-            make_file(alloc, files, RecordFormat::Journal, file, records)
-        }
-        Request::CopyJournal { old, new } => match copy_journal(alloc, files, old, new) {
-            Ok(()) => Ok(()),
-            Err(why) => Err(Fault::CopyJournal(why)),
-        },
-        Request::Show { kind, what, show } => {
-            show_text(alloc, files, kind, what, show, None, output)
-        }
-        Request::CheckFrame {
-            what,
-            bdk,
-            show,
-            initial,
-        } => {
-            let key = Some(KeyArgument::new(bdk, initial));
-            show_text(alloc, files, "frame", what, show, key, output)
-        }
-        request => do_command(alloc, request, output),
+        _ => do_command(alloc, request, output),
     }
+}
+
+/// Does `mac` or `data` over the bytes that its TEXT stands for.
+fn answer_message<S: FileSystem, R: Source, W: Sink>(
+    alloc: Global,
+    files: &S,
+    request: &Request<'_>,
+    input: &mut R,
+    output: &mut W,
+) -> Result<(), Fault>
+    requires { IsOverMessage request.now.command }
+    ensures done { OnOk result (IsDoneOverMessage (S.held files.now) (serving_of R.known R.reads
+        W.known input.old input.new output.old output.new) request.now) }
+    ensures handed_on { OnOk result (IsHandedOn (W.held_back output.new)) }
+    ensures not_done { IfErr result (IsNotDoneOverMessage (S.held files.now) (serving_of R.known
+        R.reads W.known input.old input.new output.old output.new) request.now) }
+{
+    duk_io::laws::writes();
+    let message = match read_message(alloc, files, request.text("TEXT"), input) {
+        Ok(message) => message,
+        Err(why) => return Err(Fault::Text(why)),
+    };
+    do_over_message(alloc, request, message.as_slice(), output)
 }
 
 /// Makes the file of a log or a journal.
@@ -209,18 +216,26 @@ fn make_file<S: LogFiles>(
     alloc: Global,
     files: &S,
     format: RecordFormat,
-    file: &str,
-    records: &str,
+    request: &Request<'_>,
 ) -> Result<(), Fault>
-    requires { S.may_make files.now file.now }
+    requires { S.may_make files.now (text_in (codes "FILE") request.now) }
     ensures made { OnOk result
-        (HasMadeFile format S.Disk.meaning (S.making files.now file.now) records.now) }
+        (HasMadeFile format S.Disk.meaning
+        (S.making files.now (text_in (codes "FILE") request.now))
+        (text_in (codes "RECORDS") request.now)) }
     ensures refused { IfErr result (λ why. (cause : NewFileFault)
         × (why ≡ NewFile format cause)
-        × IsNewFileRefused format S.Disk.meaning (S.making files.now file.now) records.now
-        cause) }
+        × IsNewFileRefused format S.Disk.meaning
+        (S.making files.now (text_in (codes "FILE") request.now))
+        (text_in (codes "RECORDS") request.now) cause) }
 {
-    match new_file(alloc, files, format, file, records) {
+    match new_file(
+        alloc,
+        files,
+        format,
+        request.text("FILE"),
+        request.text("RECORDS"),
+    ) {
         Ok(()) => Ok(()),
         Err(why) => Err(Fault::NewFile(format, why)),
     }

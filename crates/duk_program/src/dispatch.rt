@@ -7,20 +7,31 @@ ghost use Rattle.duk_commands.specs.Answer.{streams};
 ghost use Rattle.duk_io.specs.Sink.{IsUntouched};
 ghost use Rattle.duk_program.specs.Commands.{IsCommandDone};
 ghost use Rattle.duk_program.specs.Items.{IsAtOnce};
-ghost use Rattle.duk_program.specs.Status.{EndsWith, HasEnded, HasNotEnded, IsLeftToDo, IsToRun, RunsAsked};
+ghost use Rattle.duk_program.specs.Status.{EndsWith, HasEnded, HasNotEnded, IsKept, IsLeftToDo, IsToRun, RunsAsked, RunsRequest};
 ghost use Rattle.duk_program.specs.inner.Commands.{IsOverArguments};
-ghost use Rattle.duk_program.specs.inner.Status.{HasToldCommand, RunsRequest};
+ghost use Rattle.duk_program.specs.inner.Status.{HasToldCommand};
 
 use crate::commands::do_command;
 use crate::items::line_command;
 use crate::references::has_reference;
 use crate::shown::show;
-use duk_arguments::{Kept, Request, read_request};
+use duk_arguments::{CommandName, Request, read_request};
 use duk_io::Sink;
 use std::alloc::Global;
 
-/// What is left to do when the arguments are dealt with.
+/// Where a service keeps the used numbers.
 #[derive(Clone, Copy)]
+pub enum Kept<'a> {
+    /// In memory.
+    InMemory,
+    /// In the log of the file under this path.
+    InLog(&'a str),
+    /// In the journal of the file under this path.
+    InJournal(&'a str),
+}
+
+/// What is left to do when the arguments are dealt with.
+#[derive(Drop)]
 pub enum Todo<'a> {
     /// To end with this status: 0 where all is done, 1 after the line of a fault, 2 where the
     /// arguments were refused.
@@ -97,19 +108,31 @@ fn do_request<'a, W: Sink, F: Sink>(
     ensures quiet { IsToRun result → W.known output.new ≡ W.known output.old }
     ensures silent { IsToRun result → F.known fault.new ≡ F.known fault.old }
 {
-    match request {
-        Request::Run {
-            config,
-            script,
-            journal,
-        } => Todo::Run {
-            config,
-            script,
-            journal,
+    match request.command() {
+        CommandName::Run => Todo::Run {
+            config: request.text("CONFIG"),
+            script: request.text("SCRIPT"),
+            journal: request.flag("journal"),
         },
-        Request::Serve { config, kept } => Todo::Serve { config, kept },
-        request if is_left(&request) => Todo::Do(request),
-        request => Todo::Exit(end_command(alloc, request, output, fault)),
+        CommandName::Serve => Todo::Serve {
+            config: request.text("CONFIG"),
+            kept: kept_of(&request),
+        },
+        _ if is_left(&request) => Todo::Do(request),
+        _ => Todo::Exit(end_command(alloc, &request, output, fault)),
+    }
+}
+
+/// Where a request keeps the used numbers.
+fn kept_of<'a>(request: &Request<'a>) -> Kept<'a>
+    ensures { IsKept request.now result }
+{
+    if let Some(path) = request.value("log") {
+        return Kept::InLog(path);
+    }
+    match request.value("journal") {
+        Some(path) => Kept::InJournal(path),
+        None => Kept::InMemory,
     }
 }
 
@@ -117,16 +140,16 @@ fn do_request<'a, W: Sink, F: Sink>(
 /// of a fault.
 fn end_command<W: Sink, F: Sink>(
     alloc: Global,
-    request: Request<'_>,
+    request: &Request<'_>,
     output: &mut W,
     fault: &mut F,
 ) -> u8
-    requires { IsOverArguments request }
+    requires { IsOverArguments request.now.command }
     ensures status { (result ≡ 0) ⊎ (result ≡ 1) }
     ensures done { result ≡ 0
-        → IsCommandDone request.entry (W.known output.old) (W.known output.new) }
+        → IsCommandDone request.now (W.known output.old) (W.known output.new) }
     ensures no_fault { result ≡ 0 → IsUntouched (F.known fault.old) (F.known fault.new) }
-    ensures not_done { result ≡ 1 → HasToldCommand request.entry
+    ensures not_done { result ≡ 1 → HasToldCommand request.now
         (streams (W.known output.old) (W.known output.new)
         (F.known fault.old) (F.known fault.new)) }
 {
@@ -142,32 +165,27 @@ fn end_command<W: Sink, F: Sink>(
 
 /// Whether a request needs files or the input.
 fn is_left(request: &Request<'_>) -> bool
-    ensures over { IsFalse result → IsOverArguments request.now }
+    ensures over { IsFalse result → IsOverArguments request.now.command }
     ensures at_once { IsFalse result → IsAtOnce request.now }
 {
-    !is_over_arguments(request) || has_reference(request) || line_command(request).is_some()
+    !is_over_arguments(request.command())
+        || has_reference(request)
+        || line_command(request).is_some()
 }
 
-/// Whether the command of a request is one over its arguments alone.
-fn is_over_arguments(request: &Request<'_>) -> bool
-    ensures { IsTrue result → IsOverArguments request.now }
+/// Whether a command is one over its arguments alone.
+fn is_over_arguments(command: CommandName) -> bool
+    ensures { IsTrue result → IsOverArguments command }
 {
-    match request {
-        Request::Derive { .. }
-        | Request::Walk { .. }
-        | Request::Pin { .. }
-        | Request::Wrap { .. }
-        | Request::Unwrap { .. }
-        | Request::Initial { .. }
-        | Request::Registers { .. }
-        | Request::Kcv { .. }
-        | Request::Mac { .. }
-        | Request::Data { .. }
-        | Request::Unpin { .. }
-        | Request::Translate { .. }
-        | Request::MakeRequest { .. }
-        | Request::MakeReversal { .. }
-        | Request::CheckReply { .. } => true,
-        _ => false,
+    match command {
+        CommandName::Run
+        | CommandName::Serve
+        | CommandName::NewLog
+        | CommandName::NewJournal
+        | CommandName::CopyJournal
+        | CommandName::Find
+        | CommandName::Show
+        | CommandName::Issue => false,
+        _ => true,
     }
 }

@@ -3,18 +3,17 @@
 ghost use Rattle.duk_io.specs.Sink.{IsTried};
 ghost use Rattle.duk_program.specs.Fault.{fault_text};
 
+use crate::message::text_fault_line;
 use crate::secrets::SecretFault;
-use duk_batch::BatchFault;
-use duk_commands::tell;
+use duk_commands::issue::IssueFault;
+use duk_commands::{BatchFault, FindFault, tell};
 use duk_config::ScriptFault;
 use duk_io::Sink;
-use duk_issue::IssueFault;
 use duk_script::print_fault;
 use duk_service::copy_journal::CopyJournalFault;
 use duk_service::new_file::NewFileFault;
-use duk_service::{RecordFormat, ServeFault};
+use duk_service::{FileFault, RecordFormat, ServeFault};
 use duk_show::ShowFault;
-use duk_tools::FindFault;
 
 /// Why the program ends with status 1. A fault has nothing of an argument but the key of a
 /// configuration that is none, and the serial number of a terminal.
@@ -32,6 +31,8 @@ pub enum Fault {
     Batch(BatchFault),
     /// Of a secret that is given by reference.
     Secret(SecretFault),
+    /// A TEXT whose bytes are not read.
+    Text(FileFault),
     /// The file of the configuration cannot be read.
     ConfigUnread,
     /// Of a configuration or a script.
@@ -57,6 +58,7 @@ impl Fault {
             Fault::Issue(why) => tell(fault, why.line().as_slice()),
             Fault::Batch(why) => tell(fault, why.line().as_slice()),
             Fault::Secret(why) => tell(fault, why.line().as_slice()),
+            Fault::Text(why) => tell(fault, text_fault_line(*why).as_bytes()),
             Fault::ConfigUnread => tell(fault, b"config: cannot read\n"),
             Fault::Script(why) => print_fault(why, fault),
             Fault::Serve(why) => tell(fault, why.line().as_bytes()),

@@ -1,52 +1,88 @@
 //! The command `find`.
 
-ghost use Rattle.std.specs.Prelude.{◌≡◌, IfErr, OnOk};
-ghost use Rattle.std.specs.Option.{option_copied};
-ghost use Rattle.duk_arguments.specs.Given.{first_in};
+ghost use Rattle.std.specs.Prelude.{IfErr, IfOk, OnOk, codes, true, ◌≡◌};
+ghost use Rattle.duk_arguments.specs.Request.{flag_in, value_in};
 ghost use Rattle.duk_commands.specs.Answer.{streams};
+ghost use Rattle.duk_host.specs.Serve.{supply};
 ghost use Rattle.duk_io.specs.Sink.{IsHandedOn};
-ghost use Rattle.duk_program.specs.Find.{HasFoundIt, HasNotFoundIt, clue_for, find_for};
-ghost use Rattle.duk_tools.specs.Find.{IsFindDone, IsFindFailed};
+ghost use Rattle.duk_program.specs.Find.{HasFound, HasFoundIt, HasFoundOver, HasNotFound, HasNotFoundIt, HasNotFoundOver, IsClueIn};
+ghost use Rattle.duk_program.specs.Message.{IsSomeMessage, IsSomeMessageUnread};
+ghost use Rattle.duk_service.specs.Serve.{serving_of};
 
+use crate::commands::key_of;
 use crate::fault::Fault;
-use duk_arguments::Sought;
-use duk_commands::{KeyArgument, hand_on};
-use duk_io::Sink;
-use duk_tools::{Clue, FindFault, find_command};
+use crate::message::read_message;
+use duk_arguments::Request;
+use duk_commands::{Clue, FindFault, find_command, hand_on};
+use duk_io::{Sink, Source};
+use duk_service::{FileFault, FileSystem};
 use std::alloc::Global;
 
-/// What is sought, by which key, and how.
-#[derive(Clone, Copy)]
-pub(crate) struct FindWords<'a> {
-    /// The base derivation key, or the terminal's initial key, as written.
-    pub(crate) bdk: &'a str,
-    /// What the key made, as written.
-    pub(crate) what: &'a str,
-    /// What that is, and the number at which the search begins.
-    pub(crate) sought: Sought<'a>,
-    /// How many numbers are tried at most, as written.
-    pub(crate) window: Option<&'a str>,
-    /// Whether `bdk` is the terminal's initial key.
-    pub(crate) initial: bool,
-}
-
-/// Prints the number and the key that made what is sought, and hands that on. A long search tells its
-/// progress on `fault`.
-pub(crate) fn find_made<W: Sink, F: Sink>(
+/// Prints the number and the key that made what is sought, and hands that on. The bytes of a TEXT are
+/// read first. A long search tells its progress on `fault`.
+pub(crate) fn find_made<S: FileSystem, R: Source, W: Sink, F: Sink>(
     alloc: Global,
-    words: &FindWords<'_>,
+    files: &S,
+    request: &Request<'_>,
+    input: &mut R,
     output: &mut W,
     fault: &mut F,
 ) -> Result<(), Fault>
-    ensures done { OnOk result (HasFoundIt (find_for words.now.bdk words.now.what words.now.sought
-        words.now.window words.now.initial) (streams (W.known output.old) (W.known output.new)
-        (F.known fault.old) (F.known fault.new))) }
+    ensures done { OnOk result (HasFoundIt (S.held files.now)
+        (serving_of R.known R.reads W.known input.old input.new output.old output.new) request.now
+        (streams (W.known output.old) (W.known output.new) (F.known fault.old)
+        (F.known fault.new))) }
     ensures handed_on { OnOk result (IsHandedOn (W.held_back output.new)) }
-    ensures not_done { IfErr result (HasNotFoundIt (find_for words.now.bdk words.now.what
-        words.now.sought words.now.window words.now.initial) (streams (W.known output.old)
-        (W.known output.new) (F.known fault.old) (F.known fault.new))) }
+    ensures not_done { IfErr result (HasNotFoundIt (S.held files.now)
+        (serving_of R.known R.reads W.known input.old input.new output.old output.new) request.now
+        (streams (W.known output.old) (W.known output.new) (F.known fault.old)
+        (F.known fault.new))) }
 {
-    let ended = find_written(alloc, words, output, fault);
+    duk_io::laws::writes();
+    let message = match read_sought(alloc, files, request, input) {
+        Ok(message) => message,
+        Err(why) => return Err(Fault::Text(why)),
+    };
+    find_over(alloc, request, message.as_slice(), output, fault)
+}
+
+/// The bytes of the TEXT whose MAC is sought; none where no TEXT is given.
+fn read_sought<S: FileSystem, R: Source>(
+    alloc: Global,
+    files: &S,
+    request: &Request<'_>,
+    input: &mut R,
+) -> Result<Vec<u8>, FileFault>
+    ensures read { IfOk result (λ bytes. IsSomeMessage (S.held files.now)
+        (supply (R.known input.old) (R.reads input.old))
+        (supply (R.known input.new) (R.reads input.new))
+        (value_in (codes "text") request.now) bytes.items) }
+    ensures unread { IfErr result (IsSomeMessageUnread (S.held files.now)
+        (supply (R.known input.old) (R.reads input.old))
+        (supply (R.known input.new) (R.reads input.new))
+        (value_in (codes "text") request.now)) }
+{
+    match request.value("text") {
+        Some(text) => read_message(alloc, files, text, input),
+        None => Ok(Vec::new(alloc)),
+    }
+}
+
+/// The same over the bytes of a TEXT.
+fn find_over<W: Sink, F: Sink>(
+    alloc: Global,
+    request: &Request<'_>,
+    message: &[u8],
+    output: &mut W,
+    fault: &mut F,
+) -> Result<(), Fault>
+    ensures done { OnOk result (HasFoundOver request.now message.now (streams (W.known output.old)
+        (W.known output.new) (F.known fault.old) (F.known fault.new))) }
+    ensures handed_on { OnOk result (IsHandedOn (W.held_back output.new)) }
+    ensures not_done { IfErr result (HasNotFoundOver request.now message.now (streams
+        (W.known output.old) (W.known output.new) (F.known fault.old) (F.known fault.new))) }
+{
+    let ended = find_written(alloc, request, message, output, fault);
     match hand_on(ended, FindFault::WriteFailed, output) {
         Ok(()) => Ok(()),
         Err(why) => Err(Fault::Find(why)),
@@ -56,52 +92,43 @@ pub(crate) fn find_made<W: Sink, F: Sink>(
 /// The same, but what is printed may still be held back.
 fn find_written<W: Sink, F: Sink>(
     alloc: Global,
-    words: &FindWords<'_>,
+    request: &Request<'_>,
+    message: &[u8],
     output: &mut W,
     fault: &mut F,
 ) -> Result<(), FindFault>
-    ensures done { OnOk result (IsFindDone (find_for words.now.bdk words.now.what words.now.sought
-        words.now.window words.now.initial) (streams (W.known output.old) (W.known output.new)
-        (F.known fault.old) (F.known fault.new))) }
-    ensures failed { IfErr result (λ why. IsFindFailed (find_for words.now.bdk words.now.what
-        words.now.sought words.now.window words.now.initial) why (streams (W.known output.old)
+    ensures done { OnOk result (HasFound request.now message.now (streams (W.known output.old)
         (W.known output.new) (F.known fault.old) (F.known fault.new))) }
+    ensures failed { IfErr result (λ why. HasNotFound request.now message.now why (streams
+        (W.known output.old) (W.known output.new) (F.known fault.old) (F.known fault.new))) }
 {
-    let key = KeyArgument::new(words.bdk, words.initial);
-    let clue = clue_for(&words.sought);
-    let from = first_in(&words.sought);
     find_command(
         alloc,
-        key,
-        words.what,
-        clue,
-        from,
-        words.window,
+        key_of(request),
+        request.text("WHAT"),
+        clue_of(request, message),
+        request.value("from"),
+        request.value("window"),
         output,
         fault,
     )
 }
 
-/// What is known of what is sought.
-fn clue_for<'a>(sought: &Sought<'a>) -> Clue<'a>
-    ensures { result ≡ clue_for sought.now }
+/// What a request says of what is sought, where these are the bytes of its TEXT.
+fn clue_of<'a>(request: &Request<'a>, message: &'a [u8]) -> Clue<'a>
+    ensures { IsClueIn request.now message.now result }
 {
-    match *sought {
-        Sought::Frame { .. } => Clue::Frame,
-        Sought::Mac { text, hex, .. } => Clue::Mac { text, hex },
-        Sought::PinBlock { pan, .. } => Clue::PinBlock { pan },
-        Sought::Ciphertext { clear, .. } => Clue::Ciphertext { clear },
+    if request.flag("text") {
+        return Clue::Mac {
+            text: message,
+            hex: request.flag("hex"),
+        };
     }
-}
-
-/// The number at which the search begins, where it is given.
-fn first_in<'a>(sought: &Sought<'a>) -> Option<&'a str>
-    ensures { option_copied result ≡ first_in sought.now }
-{
-    match *sought {
-        Sought::Frame { from } => from,
-        Sought::Mac { from, .. }
-        | Sought::PinBlock { from, .. }
-        | Sought::Ciphertext { from, .. } => Some(from),
+    if let Some(pan) = request.value("pan") {
+        return Clue::PinBlock { pan };
+    }
+    match request.value("clear") {
+        Some(clear) => Clue::Ciphertext { clear },
+        None => Clue::Frame,
     }
 }

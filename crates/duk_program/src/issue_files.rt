@@ -1,35 +1,28 @@
 //! The command `issue` over the file of its ledger.
 
-ghost use Rattle.std.specs.Prelude.{◌≡◌, ◌*◌, ◌≤◌, IfErr, IfOk, IfSome, OnOk, length};
+ghost use Rattle.std.specs.Prelude.{◌≡◌, ◌*◌, ◌≤◌, IfErr, IfOk, IfSome, OnOk, codes, length};
 ghost use Rattle.std.specs.Option.{option_copied};
+ghost use Rattle.duk_arguments.specs.Request.{text_in, value_in};
 ghost use Rattle.duk_commands.specs.Answer.{streams};
 ghost use Rattle.duk_io.specs.Sink.{IsHandedOn};
-ghost use Rattle.duk_issue.specs.Issue.{ends};
-ghost use Rattle.duk_issue.specs.Order.{IsOrderOf, IsOrderRefused};
+ghost use Rattle.duk_commands.specs.Issue.{ends};
+ghost use Rattle.duk_commands.specs.Order.{IsOrderOf, IsOrderRefused};
 ghost use Rattle.duk_service.specs.Files.{IsFrontRead};
 ghost use Rattle.duk_program.specs.IssueFiles.{HasIssuedFiles, HasMadeLines, HasNotIssuedFiles, HasNotMadeLines, IsIssuedOver, IsIssuedTo, IsIssuedToFile, IsLedgerOpened, IsLedgerUnopened, IsNotIssuedOver, IsNotIssuedTo, IsNoted, IsNotIssuedToFile, IsPaddingRefused, if_issued_in, issue_files_known, issuing, order_in, random_device};
 ghost use Rattle.duk_program.specs.inner.IssueFiles.{task_of};
 
-use duk_arguments::IssueWay;
+use duk_arguments::Request;
 use duk_commands::hand_on;
+use duk_commands::issue::{
+    IssueFault, Order, PADDING_LENGTH, issue, issue_again, note_passed_over,
+};
 use duk_io::Sink;
-use duk_issue::{IssueFault, Order, PADDING_LENGTH, issue, issue_again, note_passed_over};
 use duk_service::{Access, FileFault, FileSystem, LogFiles, OpenFault, RecordFormat, open_own};
 use duk_store::{DiskLog, UsedLog};
 use std::alloc::Global;
 
 /// The system's random device.
 const RANDOM: &str = "/dev/urandom";
-
-/// The arguments of `issue`, as written, beside the path of its ledger.
-#[derive(Clone, Copy)]
-pub(crate) struct IssueArguments<'a> {
-    pub(crate) bdk: &'a str,
-    pub(crate) loading: &'a str,
-    pub(crate) iksn: &'a str,
-    pub(crate) count: &'a str,
-    pub(crate) way: IssueWay<'a>,
-}
 
 /// What becomes of numbers that are issued already.
 #[derive(Clone, Copy, Debug, PartialEq, Eq)]
@@ -43,11 +36,11 @@ pub(crate) enum IfIssued {
 }
 
 impl IfIssued {
-    /// By what the arguments say: that numbers are made again goes before that they are passed over.
-    fn by(way: &IssueWay<'_>) -> IfIssued
-        ensures { result ≡ if_issued_in way.now }
+    /// By what a request says: that numbers are made again goes before that they are passed over.
+    fn by(request: &Request<'_>) -> IfIssued
+        ensures { result ≡ if_issued_in request.now }
     {
-        match (way.again, way.skip_issued) {
+        match (request.flag("again"), request.flag("skip-issued")) {
             (true, _) => IfIssued::MakeAgain,
             (false, true) => IfIssued::PassOver,
             (false, false) => IfIssued::Refuse,
@@ -64,73 +57,67 @@ pub(crate) struct Task<'a> {
     padding: &'a [u8],
 }
 
-/// Issues the initial keys that the arguments ask for, or makes their lines again, over the ledger in
-/// the file under a path. The lines go to `output`, or to a new file, where each is kept before the
+/// Issues the initial keys that a request asks for, or makes their lines again, over the ledger in its
+/// file. The lines go to `output`, or to a new file, where each is kept before the
 /// next number is. How many numbers were passed over stands on `fault` where there are any.
 ///
 /// The faults, in this order: `BDK refused`, `loading refused`, `IKSN refused`, `count refused`, `KCV
 /// refused`, `KCV differs`; `padding: cannot read`, where the system gives no random bytes; `ledger:
 /// cannot open`, `ledger: failed` and `ledger: damaged`, where its bytes are none that a ledger
-/// leaves; `out: cannot make`; then those of `duk_issue::issue` or `duk_issue::issue_again`. `write
-/// failed` stands in place of any behind which lines could not be handed on.
+/// leaves; `out: cannot make`; then those of `issue` or `issue_again`. `write failed` stands in place of
+/// any behind which lines could not be handed on.
 pub(crate) fn issue_files<S: FileSystem + LogFiles, W: Sink, F: Sink>(
     alloc: Global,
     files: &S,
-    arguments: &IssueArguments<'_>,
-    ledger: &str,
+    request: &Request<'_>,
     output: &mut W,
     fault: &mut F,
 ) -> Result<(), IssueFault>
-    requires write { S.may_write files.now ledger.now }
-    requires make { IfSome (option_copied arguments.now.way.out) (S.may_make files.now) }
+    requires write { S.may_write files.now (text_in (codes "ledger") request.now) }
+    requires make { IfSome (value_in (codes "out") request.now) (S.may_make files.now) }
     ensures done { OnOk result (HasIssuedFiles S.Disk.meaning
-        (issue_files_known (S.held files.now) (S.disks files.now ledger.now) (S.making files.now))
-        arguments.now (streams (W.known output.old) (W.known output.new)
+        (issue_files_known (S.held files.now)
+        (S.disks files.now (text_in (codes "ledger") request.now)) (S.making files.now))
+        request.now (streams (W.known output.old) (W.known output.new)
         (F.known fault.old) (F.known fault.new))) }
     ensures handed_on { OnOk result (IsHandedOn (W.held_back output.new)) }
     ensures not_done { IfErr result (HasNotIssuedFiles S.Disk.meaning
-        (issue_files_known (S.held files.now) (S.disks files.now ledger.now) (S.making files.now))
-        arguments.now (streams (W.known output.old) (W.known output.new)
+        (issue_files_known (S.held files.now)
+        (S.disks files.now (text_in (codes "ledger") request.now)) (S.making files.now))
+        request.now (streams (W.known output.old) (W.known output.new)
         (F.known fault.old) (F.known fault.new))) }
 {
     duk_io::laws::writes();
-    let order = read_order(arguments)?;
+    let order = read_order(request)?;
     let padding = match read_padding(alloc, files, order.count) {
         Ok(padding) => padding,
         Err(why) => return Err(why),
     };
-    let disk = match open_ledger(files, ledger) {
+    let disk = match open_ledger(files, request.text("ledger")) {
         Ok(disk) => disk,
         Err(why) => return Err(why),
     };
     let task = Task {
         order: &order,
-        if_issued: IfIssued::by(&arguments.way),
+        if_issued: IfIssued::by(request),
         padding: padding.as_slice(),
     };
     let ledger = DiskLog::new(disk);
-    issue_to(
-        alloc,
-        files,
-        &task,
-        arguments.way.out,
-        ledger,
-        output,
-        fault,
-    )
+    let out = request.value("out");
+    issue_to(alloc, files, &task, out, ledger, output, fault)
 }
 
-/// Reads the arguments of an order.
-fn read_order(arguments: &IssueArguments<'_>) -> Result<Order, IssueFault>
-    ensures read { IfOk result (IsOrderOf (order_in arguments.now)) }
-    ensures refused { IfErr result (IsOrderRefused (order_in arguments.now)) }
+/// Reads the order of a request.
+fn read_order(request: &Request<'_>) -> Result<Order, IssueFault>
+    ensures read { IfOk result (IsOrderOf (order_in request.now)) }
+    ensures refused { IfErr result (IsOrderRefused (order_in request.now)) }
 {
     Order::read(
-        arguments.bdk,
-        arguments.loading,
-        arguments.iksn,
-        arguments.count,
-        arguments.way.kcv,
+        request.text("BDK"),
+        request.text("LOADING"),
+        request.text("IKSN"),
+        request.text("COUNT"),
+        request.value("bdk-kcv"),
     )
 }
 

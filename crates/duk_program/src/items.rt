@@ -1,17 +1,17 @@
 //! Commands of which one argument is each line of the input.
 
-ghost use Rattle.std.specs.Prelude.{◌≡◌, ◌∷◌, ◌||◌, ◌&&◌, [], Bool, IfErr, IfOk, MatchOption, None, Some, false, not};
-ghost use Rattle.duk_arguments.specs.Keys.{texts_of_keys};
-ghost use Rattle.duk_program.specs.Items.{command_of_line, is_input, is_input_alone, items_of, shown_items};
+ghost use Rattle.std.specs.Prelude.{◌≡◌, [], Bool, IfErr, IfOk, MatchOption, None, OnOk, Some, false};
+ghost use Rattle.duk_program.specs.Items.{AreOthersReady, AreOthersRefused, asks_for_keys, command_of_line, is_input, items_of, pin_items, shown_items};
 ghost use Rattle.duk_program.specs.declared.items.ItemFault.TheVariants.{Command, Show};
 ghost use Rattle.duk_program.specs.inner.Items.{IsAsItem, item_line, items_in};
 
 use crate::explaining::item_explanation;
-use duk_arguments::{Keys, Request};
-use duk_batch::{DeriveItems, Items, Kept, Refused};
-use duk_commands::{Lines, pin_lines};
+use duk_arguments::{CommandName, Request};
+use duk_commands::{
+    DeriveItems, Items, Kept, Lines, Refused, pans_ready, pin_lines, pins_ready, unwrap_lines,
+    unwrap_ready, values_lines,
+};
 use duk_show::{ShowFault, block_lines, frame_lines, image_lines};
-use duk_tools::values_lines;
 use std::alloc::Global;
 
 /// Why an item is refused.
@@ -56,6 +56,11 @@ pub(crate) enum LineCommand<'a> {
         /// The key under which each block is enciphered.
         key: Option<&'a str>,
     },
+    /// `unwrap` of key blocks.
+    Unwrap {
+        /// The key block protection key.
+        kbpk: &'a str,
+    },
     /// `show frame`.
     Frames,
     /// `show block`.
@@ -68,6 +73,36 @@ pub(crate) enum LineCommand<'a> {
 }
 
 impl LineCommand<'_> {
+    /// The name of the argument that each line is.
+    fn item(&self) -> &'static str {
+        match self {
+            LineCommand::Derive(_) => "KSN",
+            LineCommand::Kcv => "KEY",
+            LineCommand::Pins { .. } => "PIN",
+            LineCommand::Pans { .. } => "PAN",
+            LineCommand::Unwrap { .. } => "BLOCK",
+            LineCommand::Frames | LineCommand::Blocks | LineCommand::Images { .. } => "WHAT",
+        }
+    }
+
+    /// Whether the arguments beside the item can be used, before there is any. Refused with the first
+    /// fault of theirs, which each item would have.
+    pub(crate) fn ready(&self) -> Result<(), duk_commands::Fault>
+        ensures ready { OnOk result (AreOthersReady (items_in self.now)) }
+        ensures refused { IfErr result (AreOthersRefused (items_in self.now)) }
+    {
+        match *self {
+            LineCommand::Derive(items) => items.ready(),
+            LineCommand::Pins { pan, key } => pins_ready(pan, key),
+            LineCommand::Pans { pin, key } => pans_ready(pin, key),
+            LineCommand::Unwrap { kbpk } => unwrap_ready(kbpk),
+            LineCommand::Kcv
+            | LineCommand::Frames
+            | LineCommand::Blocks
+            | LineCommand::Images { .. } => Ok(()),
+        }
+    }
+
     /// The lines of an item, or why it is refused, as of the command with this item alone.
     fn lines(
         &self,
@@ -86,6 +121,7 @@ impl LineCommand<'_> {
             LineCommand::Kcv => of_command(values_lines(&[item], false, false)),
             LineCommand::Pins { pan, key } => of_command(pin_lines(item, pan, key)),
             LineCommand::Pans { pin, key } => of_command(pin_lines(pin, item, key)),
+            LineCommand::Unwrap { kbpk } => of_command(unwrap_lines(kbpk, item)),
             LineCommand::Frames => of_show(frame_lines(alloc, item)),
             LineCommand::Blocks => of_show(block_lines(item)),
             LineCommand::Images { show } => of_show(image_lines(alloc, item, show)),
@@ -117,7 +153,7 @@ fn of_show(made: Result<Lines, ShowFault>) -> Result<Lines, ItemFault>
 #[derive(Clone, Copy)]
 pub(crate) struct LineItems<'a> {
     /// The request, with `-` in the place of an item.
-    pub(crate) request: Request<'a>,
+    pub(crate) request: &'a Request<'a>,
     /// Its command over an item.
     pub(crate) command: LineCommand<'a>,
     /// Whether the fault of an item is explained.
@@ -150,10 +186,9 @@ impl LineItems<'_> {
         if !self.explain {
             return Refused::unexplained(why.line());
         }
-        let about = of_item(&self.request, item);
         Refused {
             line: why.line(),
-            explanation: item_explanation(&about, &why),
+            explanation: item_explanation(self.request, self.command.item(), item, &why),
         }
     }
 }
@@ -163,70 +198,41 @@ pub(crate) fn line_command<'a>(request: &Request<'a>) -> Option<LineCommand<'a>>
     ensures { MatchOption result (items_of request.now ≡ None)
         (λ command. items_of request.now ≡ Some (items_in command)) }
 {
-    match *request {
-        Request::Derive {
-            bdk,
-            ksn,
-            initial,
-            trace,
-            all,
-        } => {
-            if !is_input(ksn) {
-                return None;
-            }
+    match request.command() {
+        CommandName::Derive if is_input(request.text("KSN")) => {
             Some(LineCommand::Derive(DeriveItems {
-                bdk,
-                initial,
-                trace,
-                all,
+                bdk: request.text("BDK"),
+                initial: request.flag("initial"),
+                trace: request.flag("trace"),
+                all: request.flag("all"),
             }))
         }
-        Request::Kcv {
-            keys,
-            components,
-            show,
-        } => {
-            if !asks_for_keys(&keys, components, show) {
-                return None;
-            }
-            Some(LineCommand::Kcv)
+        CommandName::Kcv if asks_for_keys(request) => Some(LineCommand::Kcv),
+        CommandName::Pin => pin_items(request),
+        CommandName::Unwrap if is_input(request.text("BLOCK")) => Some(LineCommand::Unwrap {
+            kbpk: request.text("KBPK"),
+        }),
+        CommandName::Show if is_input(request.text("WHAT")) && !request.flag("key") => {
+            shown_items(request.text("KIND"), request.flag("show"))
         }
-        Request::Pin { pin, pan, key } => {
-            if is_input(pin) {
-                return Some(LineCommand::Pins { pan, key });
-            }
-            if is_input(pan) {
-                return Some(LineCommand::Pans { pin, key });
-            }
-            None
-        }
-        Request::Show { kind, what, show } => {
-            if !is_input(what) {
-                return None;
-            }
-            shown_items(kind, show)
-        }
-        Request::Walk { .. }
-        | Request::Wrap { .. }
-        | Request::Unwrap { .. }
-        | Request::Run { .. }
-        | Request::Serve { .. }
-        | Request::NewLog { .. }
-        | Request::NewJournal { .. }
-        | Request::CopyJournal { .. }
-        | Request::Initial { .. }
-        | Request::Issue { .. }
-        | Request::Registers { .. }
-        | Request::Mac { .. }
-        | Request::Data { .. }
-        | Request::Unpin { .. }
-        | Request::Translate { .. }
-        | Request::MakeRequest { .. }
-        | Request::MakeReversal { .. }
-        | Request::CheckReply { .. }
-        | Request::Find { .. }
-        | Request::CheckFrame { .. } => None,
+        _ => None,
     }
+}
+
+/// The command of `pin` over the PINs of the input, or else over its PANs.
+fn pin_items<'a>(request: &Request<'a>) -> Option<LineCommand<'a>>
+    ensures { MatchOption result (pin_items request.now ≡ None)
+        (λ command. pin_items request.now ≡ Some (items_in command)) }
+{
+    let (pin, pan) = (request.text("PIN"), request.text("PAN"));
+    let key = request.value("key");
+    if is_input(pin) {
+        return Some(LineCommand::Pins { pan, key });
+    }
+    if is_input(pan) {
+        return Some(LineCommand::Pans { pin, key });
+    }
+    None
 }
 
 /// The command of `show` over the texts of the input. None: of another kind there is none.
@@ -246,90 +252,19 @@ fn shown_items(kind: &str, show: bool) -> Option<LineCommand<'static>>
     None
 }
 
-/// Whether `kcv` is over the keys of the input.
-fn asks_for_keys(keys: &Keys<'_>, components: bool, show: bool) -> bool
-    ensures { result ≡ (not (components || show) && is_input_alone (texts_of_keys keys.now)) }
+/// Whether `kcv` is over the keys of the input: it has one text alone, which stands for them, and no
+/// option.
+fn asks_for_keys(request: &Request<'_>) -> bool
+    ensures { result ≡ asks_for_keys request.now }
 {
-    !(components || show) && is_input_alone(keys)
+    request.count("KEY") == 1
+        && is_input(request.text("KEY"))
+        && !(request.flag("components") || request.flag("show"))
 }
 
 /// Whether a text stands for the lines of the input.
-pub(crate) fn is_input(text: &str) -> bool
+fn is_input(text: &str) -> bool
     ensures { result ≡ is_input text.now }
 {
     text == "-"
-}
-
-/// Whether there is one text alone, and stands for the lines of the input.
-fn is_input_alone(keys: &Keys<'_>) -> bool
-    ensures { result ≡ is_input_alone (texts_of_keys keys.now) }
-{
-    let texts = keys.texts();
-    match texts.as_slice() {
-        [text] => is_input(text),
-        _ => false,
-    }
-}
-
-/// The request of an item alone, which stands in the place of `-`.
-fn of_item<'a>(request: &Request<'a>, item: &'a str) -> Request<'a> {
-    match *request {
-        Request::Derive {
-            bdk,
-            ksn: _,
-            initial,
-            trace,
-            all,
-        } => Request::Derive {
-            bdk,
-            ksn: item,
-            initial,
-            trace,
-            all,
-        },
-        Request::Kcv {
-            keys: _,
-            components,
-            show,
-        } => Request::Kcv {
-            keys: keys_of_item(item),
-            components,
-            show,
-        },
-        Request::Pin { pin, pan, key } => pin_of_item(pin, pan, key, item),
-        Request::Show {
-            kind,
-            what: _,
-            show,
-        } => Request::Show {
-            kind,
-            what: item,
-            show,
-        },
-        request => request,
-    }
-}
-
-/// An item as the one key of `kcv`.
-fn keys_of_item(item: &str) -> Keys<'_>
-    ensures { texts_of_keys result ≡ item.now ∷ [] }
-{
-    Keys::from_slice(&[item]).unwrap()
-}
-
-/// The request for the PIN block of a PIN and a PAN, of which an item is the one that is `-`.
-fn pin_of_item<'a>(pin: &'a str, pan: &'a str, key: Option<&'a str>, item: &'a str) -> Request<'a> {
-    if is_input(pin) {
-        Request::Pin {
-            pin: item,
-            pan,
-            key,
-        }
-    } else {
-        Request::Pin {
-            pin,
-            pan: item,
-            key,
-        }
-    }
 }

@@ -1,35 +1,41 @@
 //! A run of the program.
 
-ghost use Rattle.std.specs.Prelude.{◌≡◌, ◌⊎◌};
+ghost use Rattle.std.specs.Prelude.{◌≡◌};
 ghost use Rattle.std.specs.Io.KnownBytes.{Keeps};
 ghost use Rattle.duk_arguments.specs.Asked.{AreRefused, Asks, texts_of};
-ghost use Rattle.duk_arguments.specs.declared.request.Request.{Request};
+ghost use Rattle.duk_arguments.specs.Request.{Written};
 ghost use Rattle.duk_io.specs.Sink.{IsHandedOn};
-ghost use Rattle.duk_program.specs.Explain.{is_marked, without_explain};
 ghost use Rattle.duk_program.specs.Fault.{IsTold};
-ghost use Rattle.duk_program.specs.Meant.{IsAnswered, IsNotAnswered, IsRequestDone, IsRequestNotDone};
+ghost use Rattle.duk_program.specs.Meant.{IsEndedAs, IsRequestDone, IsRequestNotDone, IsUnended};
+ghost use Rattle.duk_program.specs.Options.{is_marked, without_explain};
 ghost use Rattle.duk_program.specs.Own.{MayUseOwn};
 ghost use Rattle.duk_program.specs.Program.{IsProgramDone, IsProgramNotDone, IsToldAfter};
+ghost use Rattle.duk_program.specs.Refusal.{IsDoneStatus, IsProgramStatus};
+ghost use Rattle.duk_program.specs.Roots.{IsNoteOf};
 ghost use Rattle.duk_program.specs.Scene.{scene};
-ghost use Rattle.duk_program.specs.Status.{IsStatus};
+ghost use Rattle.duk_program.specs.inner.Status.{IsRequestStatus};
 ghost use Rattle.duk_service.specs.Serve.{serving_of};
 
 use crate::answer::answer;
-use crate::explain::take_explain;
-use crate::explaining::explanation;
+use crate::explaining::{equal_roots, explanation};
 use crate::fault::Fault;
-use crate::meant::{meant_by, read_texts};
+use crate::meant::meant_by;
+use crate::options::take_option;
+use crate::references::read_texts;
+use crate::refusal::end_status;
 use crate::shown::show;
-use duk_arguments::{Request, read_request};
+use duk_arguments::{CommandName, Request, read_request};
 use duk_commands::tell;
 use duk_io::{Sink, Source};
 use duk_service::{FileSystem, LogFiles};
 use std::alloc::Global;
 
 /// Does what the arguments ask, the first of which is the program's name, and gives the status: 0
-/// where that is done and handed on; 1 with the line of a fault on `fault`; 2 where the arguments are
-/// refused, with the reason there. With the option `--explain` among them another line tells, behind
-/// that of a fault, what was found, and what is wanted. The option is taken out of the arguments.
+/// where that is done and handed on, and 3 where it is `reply` of a refusal; 1 with the line of a fault
+/// on `fault`; 2 where the arguments are refused, with the reason there. With the option `--explain`
+/// among them another line tells, behind that of a fault, what was found, and what is wanted, and
+/// before all else a line of a configuration in which two prefixes have one key. The option is taken
+/// out of the arguments.
 ///
 /// That line tells nothing of a secret but its length, and the first place that is wrong. What it
 /// tells of a file is what the system says of it after the fault.
@@ -41,17 +47,18 @@ pub fn run_program<S: FileSystem + LogFiles, R: Source, W: Sink, F: Sink>(
     output: &mut W,
     fault: &mut F,
 ) -> u8
-    requires { (asked : Request) → Asks (without_explain (texts_of arguments.old.items)) asked
+    requires { (asked : Written) → Asks (without_explain (texts_of arguments.old.items)) asked
         → MayUseOwn (S.may_write files.now) (S.may_make files.now) asked }
-    ensures status { IsStatus result }
-    ensures handed_on { result ≡ 0 → IsHandedOn (W.held_back output.old)
+    ensures status { IsProgramStatus result }
+    ensures handed_on { IsDoneStatus result → IsHandedOn (W.held_back output.old)
         → IsHandedOn (W.held_back output.new) }
     ensures refused { result ≡ 2
         → Keeps (W.known output.old).contents (W.known output.new).contents }
+    ensures left { result ≡ 2 → R.known input.new ≡ R.known input.old }
     ensures arguments_refused { result ≡ 2
         → AreRefused (without_explain (texts_of arguments.old.items)) }
-    ensures done { result ≡ 0 → IsProgramDone (is_marked (texts_of arguments.old.items))
-        S.Disk.meaning (without_explain (texts_of arguments.old.items)) (scene
+    ensures done { IsDoneStatus result → IsProgramDone result
+        (is_marked (texts_of arguments.old.items)) S.Disk.meaning (without_explain (texts_of arguments.old.items)) (scene
         (S.held files.now) (S.disks files.now) (S.making files.now) (serving_of R.known R.reads W.known input.old
         input.new output.old output.new) (F.known fault.old) (F.known fault.new)) }
     ensures not_done { result ≡ 1 → IsProgramNotDone (is_marked (texts_of arguments.old.items))
@@ -59,14 +66,15 @@ pub fn run_program<S: FileSystem + LogFiles, R: Source, W: Sink, F: Sink>(
         (S.held files.now) (S.disks files.now) (S.making files.now) (serving_of R.known R.reads W.known input.old
         input.new output.old output.new) (F.known fault.old) (F.known fault.new)) }
 {
-    let explain = take_explain(arguments);
+    let explain = take_option(arguments, "--explain");
     match read_request(alloc, arguments.as_slice()) {
         Ok(request) => run_request(alloc, files, request, explain, input, output, fault),
         Err(answer) => show(&answer, output, fault),
     }
 }
 
-/// Does a request, and gives the status: 0, or 1 with a fault that is told. Its secrets are read first.
+/// Does a request, and gives the status: 0, of a refusal 3, or 1 with a fault that is told. Its secrets
+/// are read first.
 fn run_request<S: FileSystem + LogFiles, R: Source, W: Sink, F: Sink>(
     alloc: Global,
     files: &S,
@@ -77,10 +85,10 @@ fn run_request<S: FileSystem + LogFiles, R: Source, W: Sink, F: Sink>(
     fault: &mut F,
 ) -> u8
     requires { MayUseOwn (S.may_write files.now) (S.may_make files.now) request }
-    ensures status { (result ≡ 0) ⊎ (result ≡ 1) }
-    ensures handed_on { result ≡ 0 → IsHandedOn (W.held_back output.old)
+    ensures status { IsRequestStatus result }
+    ensures handed_on { IsDoneStatus result → IsHandedOn (W.held_back output.old)
         → IsHandedOn (W.held_back output.new) }
-    ensures done { result ≡ 0 → IsRequestDone explain S.Disk.meaning (scene (S.held files.now)
+    ensures done { IsDoneStatus result → IsRequestDone result explain S.Disk.meaning (scene (S.held files.now)
         (S.disks files.now) (S.making files.now) (serving_of R.known R.reads W.known input.old input.new output.old
         output.new) (F.known fault.old) (F.known fault.new)) request.entry }
     ensures not_done { result ≡ 1 → IsToldAfter explain (IsRequestNotDone explain S.Disk.meaning)
@@ -89,40 +97,87 @@ fn run_request<S: FileSystem + LogFiles, R: Source, W: Sink, F: Sink>(
         request.entry }
 {
     duk_io::laws::writes();
-    match read_texts(alloc, files, &request, input) {
-        Ok(texts) => {
-            let meant = meant_by(&request, texts.as_slice());
-            run_meant(alloc, files, meant, explain, input, output, fault)
-        }
-        Err(why) => end_with(alloc, files, &request, explain, &Fault::Secret(why), fault),
+    let texts = match read_texts(alloc, files, &request, input) {
+        Ok(texts) => texts,
+        Err(why) => return end_with(
+            alloc,
+            files,
+            &request,
+            &request,
+            explain,
+            &Fault::Secret(why),
+            fault,
+        ),
+    };
+    match meant_by(alloc, &request, texts.as_slice()) {
+        Ok(meant) => run_meant(
+            alloc, files, &request, &meant, explain, input, output, fault,
+        ),
+        Err(why) => end_with(
+            alloc,
+            files,
+            &request,
+            &request,
+            explain,
+            &Fault::Secret(why),
+            fault,
+        ),
     }
 }
 
-/// The same of a request whose secrets are written as they are.
+/// The same of a request whose secrets are read: as it was written, and as it was read. Its note comes
+/// first.
 fn run_meant<S: FileSystem + LogFiles, R: Source, W: Sink, F: Sink>(
     alloc: Global,
     files: &S,
-    meant: Request<'_>,
+    written: &Request<'_>,
+    meant: &Request<'_>,
     explain: bool,
     input: &mut R,
     output: &mut W,
     fault: &mut F,
 ) -> u8
-    requires { MayUseOwn (S.may_write files.now) (S.may_make files.now) meant }
-    ensures status { (result ≡ 0) ⊎ (result ≡ 1) }
-    ensures handed_on { result ≡ 0 → IsHandedOn (W.held_back output.old)
+    requires { MayUseOwn (S.may_write files.now) (S.may_make files.now) meant.now }
+    ensures status { IsRequestStatus result }
+    ensures handed_on { IsDoneStatus result → IsHandedOn (W.held_back output.old)
         → IsHandedOn (W.held_back output.new) }
-    ensures done { result ≡ 0 → IsAnswered explain S.Disk.meaning (scene (S.held files.now)
+    ensures done { IsDoneStatus result → IsEndedAs result explain S.Disk.meaning (scene (S.held files.now)
         (S.disks files.now) (S.making files.now) (serving_of R.known R.reads W.known input.old input.new output.old
-        output.new) (F.known fault.old) (F.known fault.new)) meant.entry }
-    ensures not_done { result ≡ 1 → IsToldAfter explain (IsNotAnswered explain S.Disk.meaning)
+        output.new) (F.known fault.old) (F.known fault.new)) meant.now }
+    ensures not_done { result ≡ 1 → IsToldAfter explain (IsUnended explain S.Disk.meaning)
         (scene (S.held files.now) (S.disks files.now) (S.making files.now) (serving_of R.known R.reads W.known
         input.old input.new output.old output.new) (F.known fault.old) (F.known fault.new))
-        meant.entry }
+        meant.now }
 {
+    tell_roots(alloc, files, written, meant, explain, fault);
     match answer(alloc, files, meant, explain, input, output, fault) {
-        Ok(()) => 0,
-        Err(why) => end_with(alloc, files, &meant, explain, &why, fault),
+        Ok(()) => end_status(meant),
+        Err(why) => end_with(alloc, files, written, meant, explain, &why, fault),
+    }
+}
+
+/// With `explain`, tells that two prefixes of a configuration have one key, where that is so.
+fn tell_roots<S: FileSystem, F: Sink>(
+    alloc: Global,
+    files: &S,
+    written: &Request<'_>,
+    about: &Request<'_>,
+    explain: bool,
+    fault: &mut F,
+)
+    ensures { IsNoteOf about.now.command explain (F.known fault.old) (F.known fault.new) }
+{
+    duk_io::laws::writes();
+    if !explain {
+        return;
+    }
+    match about.command() {
+        CommandName::Run | CommandName::Serve => {
+            if let Some(line) = equal_roots(alloc, files, written, about) {
+                tell(fault, line.as_slice());
+            }
+        }
+        _ => {}
     }
 }
 
@@ -131,6 +186,7 @@ fn run_meant<S: FileSystem + LogFiles, R: Source, W: Sink, F: Sink>(
 fn end_with<S: FileSystem + LogFiles, F: Sink>(
     alloc: Global,
     files: &S,
+    written: &Request<'_>,
     about: &Request<'_>,
     explain: bool,
     why: &Fault,
@@ -142,7 +198,7 @@ fn end_with<S: FileSystem + LogFiles, F: Sink>(
 {
     why.tell(fault);
     if explain {
-        let text = explanation(alloc, files, about, why);
+        let text = explanation(alloc, files, written, about, why);
         tell(fault, text.as_slice());
     }
     1

@@ -1,16 +1,17 @@
 //! Reads what references stand for: the first line of a file, or of standard input.
 
-ghost use Rattle.std.specs.Prelude.{◌≡◌, [], IfErr, IfOk, IsFalse, IsOkAnd, IsTrue, MatchResult, OnErr, map, option_map, string_bytes};
-ghost use Rattle.duk_arguments.specs.Given.{Each};
+ghost use Rattle.std.specs.Prelude.{◌≡◌, [], IfErr, IfOk, IsFalse, IsOkAnd, IsTrue, MatchResult, OnErr, false, is_some, map, option_map, string_bytes};
+ghost use Rattle.std.specs.List.{list_any};
+ghost use Rattle.duk_arguments.specs.CommandLine.{row_of};
+ghost use Rattle.duk_arguments.specs.Request.{help_name};
 ghost use Rattle.duk_host.specs.Serve.{supply};
 ghost use Rattle.duk_io.specs.Source.{AreReadsMade, IsBroken};
 ghost use Rattle.duk_program.specs.InputLine.{HasLineTaken};
-ghost use Rattle.duk_program.specs.Secrets.{AreRead, HasWordsAlone, IsSecretFault, IsWord, RefersToInput, path_of, reference_in, secrets_of};
+ghost use Rattle.duk_program.specs.Secrets.{AreRead, HasWordsAlone, IsSecretFault, RefersToInput, path_of, reference_in, secrets_in};
 ghost use Rattle.duk_program.specs.inner.Secrets.{IsAnyLineUnread, IsNextByte, IsOnceUnread, IsReadOnce, IsSecretRead, IsSecretRefused, IsTextRefused, line_fault};
 
-use crate::request_secrets::{secret_at, secrets_of};
 use crate::secrets::{Secret, SecretFault, Unread};
-use duk_arguments::Request;
+use duk_arguments::{CommandName, Entry, Request, help_name};
 use duk_io::Source;
 use duk_service::{FileFault, FileSystem, strip_return};
 use std::alloc::Global;
@@ -22,33 +23,32 @@ pub(crate) const LONGEST_LINE: usize = 4096;
 /// The most bytes that are read of the input: those of the longest line and of its end, CR LF.
 const MOST_TAKEN: usize = LONGEST_LINE + 2;
 
-/// Whether a secret of the request is a reference.
+/// Whether a text of the request is written as a reference, also where none may be one. Without one
+/// there is none that is.
 pub(crate) fn has_reference(request: &Request<'_>) -> bool
     ensures { IsFalse result → HasWordsAlone request.now }
 {
-    match secrets_of(request) {
-        Some(secrets) => has_reference_among(secrets.texts().as_slice()),
-        None => false,
-    }
+    has_reference_among(request.entries())
 }
 
-/// Whether a text is a reference.
-fn is_reference(text: &str) -> bool
-    ensures { IsFalse result → IsWord text.now }
+/// Whether the text of one of some entries is written as a reference.
+fn has_reference_among(entries: &[Entry<'_>]) -> bool
+    ensures { IsFalse result → list_any (λ text. is_some (reference_in text))
+        (map (λ entry. entry.text.now) entries.now) ≡ false }
 {
-    path_in(text).is_some()
-}
-
-/// Whether one of some texts is a reference.
-fn has_reference_among(texts: &[&str]) -> bool
-    ensures { IsFalse result → Each IsWord (map (λ text. text.now) texts.now) }
-{
-    for text in texts {
-        if is_reference(text) {
+    for entry in entries {
+        if is_reference(entry.text) {
             return true;
         }
     }
     false
+}
+
+/// Whether a text is a reference.
+pub(crate) fn is_reference(text: &str) -> bool
+    ensures { result ≡ is_some (reference_in text.now) }
+{
+    path_in(text).is_some()
 }
 
 /// What a text refers to, which is what stands behind its `@`: standard input as `-`, also where
@@ -84,28 +84,31 @@ pub(crate) fn refers_to_input(text: &str) -> bool
     }
 }
 
-/// The texts that the secrets of a request stand for, which are written so.
-pub(crate) fn read_secrets<S: FileSystem, R: Source>(
+/// The texts that those of a request stand for which may be references, in its order. The first that is
+/// not read is the fault.
+pub(crate) fn read_texts<S: FileSystem, R: Source>(
     alloc: Global,
     files: &S,
-    input: &mut R,
     request: &Request<'_>,
-    written: &[&str],
+    input: &mut R,
 ) -> Result<Vec<String>, SecretFault>
-    requires { map (λ text. text.now) written.now ≡ secrets_of request.now }
-    ensures read { IfOk result (λ texts. AreRead (S.held files.now) (secrets_of request.now)
+    ensures read { IfOk result (λ texts. AreRead (S.held files.now) (secrets_in request.now)
         (map string_bytes texts.items) (supply (R.known input.old) (R.reads input.old))
         (supply (R.known input.new) (R.reads input.new))) }
     ensures refused { IfErr result (IsSecretFault (S.held files.now)
         (supply (R.known input.old) (R.reads input.old))
         (supply (R.known input.new) (R.reads input.new)) request.now) }
 {
+    let references = match request.references(alloc) {
+        Ok(references) => references,
+        Err(_) => return Err(SecretFault::NoMemory),
+    };
     let mut texts = Vec::new(alloc);
     let mut input_is_read = false;
-    for place in 0..written.len() {
-        let secret = secret_at(request, place);
-        let text = written[place];
-        let text = match read_secret(alloc, files, input, &mut input_is_read, secret, text) {
+    for place in 0..references.len() {
+        let written = references[place].text;
+        let secret = secret_at(request.command(), references[place].name, place);
+        let text = match read_secret(alloc, files, input, &mut input_is_read, secret, written) {
             Ok(text) => text,
             Err(why) => return Err(why),
         };
@@ -115,6 +118,17 @@ pub(crate) fn read_secrets<S: FileSystem, R: Source>(
         }
     }
     Ok(texts)
+}
+
+/// The reference at a place of those of a command, under a name.
+fn secret_at(command: CommandName, name: &'static str, place: usize) -> Secret
+    ensures name { result.name.now ≡ help_name name.now (row_of command) }
+    ensures place { result.place ≡ place }
+{
+    Secret {
+        name: help_name(command, name),
+        place,
+    }
 }
 
 /// The text that a secret stands for: itself, or the line that it refers to, without its end.

@@ -1,50 +1,33 @@
 //! Secrets that arguments give by reference, and why one is not read.
 
-ghost use Rattle.std.specs.Prelude.{◌≡◌, ◌≤◌, length};
-ghost use Rattle.duk_program.specs.Secrets.{secret_line, secret_name, unread_text};
+ghost use Rattle.std.specs.Prelude.{◌≡◌, ◌≤◌, length, take};
+ghost use Rattle.duk_program.specs.Secrets.{longest_name, secret_line, unread_text};
 
 use duk_commands::{Lines, push_end, push_text};
 
-/// An argument that is a secret, by its name in the help.
+/// The most bytes of a name that is told, which no name has.
+const LONGEST_NAME: usize = 64;
+
+/// An argument that may be a reference.
 #[derive(Clone, Copy, Debug, PartialEq, Eq)]
-pub enum Secret {
-    /// The base derivation key, or the initial key.
-    Bdk,
-    /// The key block protection key.
-    Kbpk,
-    /// The PIN.
-    Pin,
-    /// The PAN.
-    Pan,
-    /// The zone key.
-    Zone,
-    /// Another key.
-    Key,
-    /// The PIN block.
-    Block,
-    /// The key of the loading blocks.
-    Loading,
-    /// What is shown.
-    What,
+pub struct Secret {
+    /// Its name in the help.
+    pub name: &'static str,
+    /// Its place among those of the request, from 0.
+    pub place: usize,
 }
 
 impl Secret {
-    /// The name of the argument in the help.
-    pub(crate) fn name(self) -> &'static str
-        ensures name { result.now ≡ secret_name self }
-        ensures short { length result.now ≤ 7 }
+    /// The bytes of its name.
+    fn told_name(&self) -> &'static [u8]
+        ensures name { result.now ≡ take longest_name self.now.name.now }
+        ensures short { length result.now ≤ 64 }
     {
-        match self {
-            Secret::Bdk => "BDK",
-            Secret::Kbpk => "KBPK",
-            Secret::Pin => "PIN",
-            Secret::Pan => "PAN",
-            Secret::Zone => "ZONE",
-            Secret::Key => "KEY",
-            Secret::Block => "BLOCK",
-            Secret::Loading => "LOADING",
-            Secret::What => "WHAT",
+        let name = self.name.as_bytes();
+        if name.len() <= LONGEST_NAME {
+            return name;
         }
+        &name[..LONGEST_NAME]
     }
 }
 
@@ -90,7 +73,7 @@ impl SecretFault {
         let mut line = Lines::new();
         match self {
             SecretFault::Unread(secret, why) => {
-                push_text(&mut line, secret.name().as_bytes());
+                push_text(&mut line, secret.told_name());
                 push_text(&mut line, why.text().as_bytes());
             }
             SecretFault::NoMemory => push_text(&mut line, b"out of memory"),

@@ -1,8 +1,9 @@
 //! The command `show`.
 
-ghost use Rattle.std.specs.Prelude.{◌≡◌, ◌⊎◌, IfErr, IfOk, OnOk};
+ghost use Rattle.std.specs.Prelude.{◌≡◌, ◌⊎◌, IfErr, IfOk, OnOk, codes};
+ghost use Rattle.duk_arguments.specs.Request.{text_in};
 ghost use Rattle.duk_io.specs.Sink.{IsHandedOn};
-ghost use Rattle.duk_program.specs.Show.{HasNotShownText, HasShownText, IsJournalFileRefused, IsJournalFileText, IsLogFileRefused, IsLogFileText, IsNotShown, IsShowRefused, IsShowText, IsShown, show_arguments};
+ghost use Rattle.duk_program.specs.Show.{HasNotShownAsked, HasNotShownText, HasShownAsked, HasShownText, IsJournalFileRefused, IsJournalFileText, IsKeyOfFrame, IsLogFileRefused, IsLogFileText, IsNotShown, IsShowRefused, IsShowText, IsShown, show_arguments};
 ghost use Rattle.duk_show.specs.Block.{IsBlockRefused, IsBlockText};
 ghost use Rattle.duk_show.specs.Frame.{IsFrameRefused, IsFrameText};
 ghost use Rattle.duk_show.specs.CheckedFrame.{IsCheckRefused, IsCheckedText};
@@ -10,6 +11,7 @@ ghost use Rattle.duk_show.specs.Image.{IsImageRefused, IsImageText};
 ghost use Rattle.duk_show.specs.declared.fault.ShowFault.TheVariants.{OutOfMemory};
 
 use crate::fault::Fault;
+use duk_arguments::Request;
 use duk_commands::{KeyArgument, hand_on};
 use duk_io::{Sink, write_text};
 use duk_service::{FileFault, FileSystem};
@@ -22,9 +24,43 @@ use std::alloc::Global;
 /// explained by.
 pub(crate) const LONGEST_LOG: usize = 1 << 30;
 
+/// Prints what a request asks for of its text or its file, and hands that on.
+pub(crate) fn show_asked<S: FileSystem, W: Sink>(
+    alloc: Global,
+    files: &S,
+    request: &Request<'_>,
+    output: &mut W,
+) -> Result<(), Fault>
+    ensures done { OnOk result (HasShownAsked request.now
+        (S.held files.now (text_in (codes "WHAT") request.now)) (W.known output.old)
+        (W.known output.new)) }
+    ensures handed_on { OnOk result (IsHandedOn (W.held_back output.new)) }
+    ensures not_done { IfErr result (λ why. HasNotShownAsked request.now
+        (S.held files.now (text_in (codes "WHAT") request.now)) (W.known output.old) why
+        (W.known output.new)) }
+{
+    show_text(
+        alloc,
+        files,
+        request.text("KIND"),
+        request.text("WHAT"),
+        request.flag("show"),
+        key_of_frame(request),
+        output,
+    )
+}
+
+/// The key that a request has for the MAC of a frame.
+fn key_of_frame<'a>(request: &Request<'a>) -> Option<KeyArgument<'a>>
+    ensures { IsKeyOfFrame request.now result }
+{
+    let key = request.value("key")?;
+    Some(KeyArgument::new(key, request.flag("initial")))
+}
+
 /// Prints what a text of its kind says, or the log or the journal in the file under a path, and hands
 /// that on. A key tests the MAC of a frame.
-pub(crate) fn show_text<S: FileSystem, W: Sink>(
+fn show_text<S: FileSystem, W: Sink>(
     alloc: Global,
     files: &S,
     kind: &str,

@@ -4,18 +4,17 @@ use Rattle.std.specs.Prelude.{None}
 use Rattle.duk_copy.specs.Copy.{IsCopied, copied_bytes}
 use Rattle.duk_journal.specs.DiskJournal.{DiskJournalOf, MayFindEntries, disk_journal_meaning, is_journal_running, new_disk_journal}
 use Rattle.duk_journal.specs.Groups.{Entries, KeepsEntries}
-use Rattle.duk_journal.specs.Journal.{JournalMeaning}
 use Rattle.duk_line.specs.Check.{IsChecked}
 use Rattle.duk_line.specs.declared.check.Checked.{Checked}
 use Rattle.duk_service.specs.CopyJournal.{HasCopiedJournal, HasKept, IsCopyJournalRefused, IsNoneOrCopy, IsOldChecked, IsOtherJournal, Keeps}
-use Rattle.duk_service.specs.LogFiles.{DiskKnown, FolderKnown, IsDisk, MakingKnown}
+use Rattle.duk_service.specs.LogFiles.{DiskKnown, IsDisk, MakingKnown}
 use Rattle.duk_service.specs.NewFile.{IsUnmade}
 use Rattle.duk_service.specs.OwnFiles.{IsOwnDisk}
 use Rattle.duk_service.proofs.LeftDisks.{left_read_over}
 use Rattle.duk_service.specs.declared.copy_journal.CopyJournalFault.{CopyJournalFault}
 use Rattle.duk_service.specs.declared.copy_journal.CopyJournalFault.TheVariants as fault
 use Rattle.duk_service.specs.declared.left_records.RecordFormat.TheVariants.{Journal}
-use Rattle.duk_service.specs.inner.CopyJournal.{CheckedNotKept, CopyNotMade, CopyNotWritten, IsCopyMade, IsNoneOrKept, IsNotChecked, IsOldUnopened, NewNotChecked, NewNotKept}
+use Rattle.duk_service.specs.inner.CopyJournal.{CopyNotMade, CopyNotWritten, IsCopyMade, IsNoneOrKept, IsNotChecked, IsOldUnopened, NewNotKept}
 use Rattle.duk_store.specs.Disk.{DiskMeaning, DiskState, HasFailed, LeavesReads, PreservesBytes, PreservesDisk}
 use Rattle.duk_store.specs.declared.fault.StoreFault.TheVariants.{Device}
 
@@ -47,14 +46,6 @@ not_kept meaning making size kept old old' made filled fault.Unmade is_made writ
     ]
 not_kept meaning making size kept old old' made filled fault.Failed is_made written refused = absurd refused.cause
 not_kept meaning making size kept old old' made filled fault.Unopened is_made written refused = absurd refused.cause
-
--- why a journal is not kept that is not checked
-pub checked_not_kept : {J : Type 0} (meaning : JournalMeaning J) (folder : FolderKnown) (kept : Checked) (old new : J) (why : CopyJournalFault)
-    → NewNotChecked meaning kept old new why → CheckedNotKept meaning folder kept old new why
-checked_not_kept meaning folder kept old new fault.OutOfMemory refused = tt
-checked_not_kept meaning folder kept old new fault.Unmade refused = inl refused
-checked_not_kept meaning folder kept old new fault.Failed refused = absurd refused
-checked_not_kept meaning folder kept old new fault.Unopened refused = absurd refused
 
 -- what is copied of a disk is copied of it as it is read later
 copied_from : (kept : ℕ) (old later before after : DiskState) → PreservesDisk old later → PreservesBytes old later → IsCopied kept old before after → IsCopied kept later before after

@@ -1,5 +1,5 @@
 -- Records that are looked through from the end of their bytes on.
-use Rattle.std.proofs.Common.{◌≡◌, ◌≢◌, ◌∙◌, inl, inr, ◌+◌, ◌-◌, ◌*◌, ◌%◌, ◌<◌, ◌≤◌, ℕ, List, [], ◌∷◌, Option, Some, None, ap, arith, drop, length, lit<, refl, subst, sym, take}
+use Rattle.std.proofs.Common.{◌≡◌, ◌≢◌, ◌∙◌, inl, inr, ◌+◌, ◌-◌, ◌*◌, ◌%◌, ◌<◌, ◌≤◌, ℕ, List, [], ◌∷◌, Option, Some, None, ap, arith, drop, length, refl, subst, sym, take}
 use Rattle.std.proofs.lemmas.Bool.{cases_lt}
 use Rattle.std.proofs.lemmas.List.{drop-drop, drop-take, drop_all, take-take}
 use Rattle.std.specs.Int.{from_be_bytes, w16}
@@ -72,55 +72,7 @@ followers_read format place said bytes piece is read there =
 
 -- ---- records of a piece, one before the other
 
--- a record stands inside the piece
-pub record_fits : (format : RecordFormat) (k count : ℕ) → k < count → record_length format * k + record_length format ≤ record_length format * count
-record_fits Log k count inside = omega (arith, inside)
-record_fits Journal k count inside = omega (arith, inside)
-
-pub some_length : (format : RecordFormat) → 0 < record_length format
-some_length Log = lit< tt
-some_length Journal = lit< tt
-
-pub record_slice : (format : RecordFormat) (n at k : ℕ) (piece : List ℕ) → n ≡ record_length format → at ≡ n * k
-    → take (at + n - at) (drop at piece) ≡ record_at format k piece
-record_slice format n at k piece is there =
-    ap (λ (m : ℕ). take m (drop at piece)) (let e : at + n - at ≡ n = omega arith in e)
-    ∙ ap (λ (m : ℕ). take m (drop at piece)) is
-    ∙ ap (λ (m : ℕ). take (record_length format) (drop m piece)) (there ∙ ap (λ (m : ℕ). m * k) is)
-
-pub last_found : (format : RecordFormat) (mark : Mark) (count k : ℕ) (piece : List ℕ) → k < count → HasMark mark (record_at format k piece)
-    → HasNone format mark (k + 1) count piece → HasLast format mark 0 count piece k
-last_found format mark count k piece before marked none = record {
-  behind = omega arith;
-  before = before;
-  marked = marked;
-  last = λ later after below. none later (omega (arith, after)) below;
-}
-
-pub none_more : (format : RecordFormat) (mark : Mark) (count k : ℕ) (piece : List ℕ) → LacksMark mark (record_at format k piece)
-    → HasNone format mark (k + 1) count piece → HasNone format mark k count piece
-none_more format mark count k piece lacks none place behind below =
-    elim (cases_lt k place) [
-      | inl past ↦ none place (omega (arith, past)) below
-      | inr here ↦ subst (λ (n : ℕ). LacksMark mark (record_at format n piece)) (let e : k ≡ place = omega (arith, here, behind) in e) lacks
-    ]
-
 -- ---- a piece before others
-
-pub none_before : (format : RecordFormat) (mark : Mark) (from at below : ℕ) (bytes : List ℕ)
-    → HasNone format mark from at bytes → HasNone format mark at below bytes → HasNone format mark from below bytes
-none_before format mark from at below bytes front rest place behind before =
-    elim (cases_lt place at) [ inl inside ↦ front place behind inside | inr past ↦ rest place past before ]
-
-pub last_before : (format : RecordFormat) (mark : Mark) (front from at below place : ℕ) (bytes : List ℕ) → front ≤ from → at ≤ below
-    → HasLast format mark from at bytes place → HasNone format mark at below bytes → HasLast format mark front below bytes place
-last_before format mark front from at below place bytes first order last rest = record {
-  behind = omega (arith, first, last.behind);
-  before = omega (arith, order, last.before);
-  marked = last.marked;
-  last = λ later after before.
-      elim (cases_lt later at) [ inl inside ↦ last.last later after inside | inr past ↦ rest later past before ];
-}
 
 -- ---- records behind the bytes
 

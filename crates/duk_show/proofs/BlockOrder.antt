@@ -2,8 +2,6 @@
 use Rattle.std.proofs.Common.{◌≡◌, ◌<◌, ◌+◌, ◌/◌, ◌%◌, ◌∷◌, [], ℕ, List, length, take, get_or, ap, sym, ◌∙◌, arith}
 use Rattle.duk_block.specs.Faults.{HasFields, HasCount, HasLength, HasSealedPart, HasVersion}
 use Rattle.duk_block.specs.declared.fault.BlockFault.TheVariants.{Length, Version, HeaderField, OptionalBlock, Hex, Mac, Payload, PadLength}
-use Rattle.hex.specs.Hex.{is_hex_digit}
-use Rattle.std.specs.List.{AllPass}
 use Rattle.duk_show.specs.inner.Block.{MetBefore}
 
 -- a text whose header is lawful meets what comes before the optional blocks
@@ -38,18 +36,6 @@ met_sealed text met sealed_part is key Hex below = absurd (omega arith)
 met_sealed text met sealed_part is key Mac below = absurd (omega arith)
 met_sealed text met sealed_part is key Payload below = absurd (omega arith)
 met_sealed text met sealed_part is key PadLength below = absurd (omega arith)
-
--- and with digits what comes before the MAC
-pub met_digits : (text : List ℕ) → MetBefore text OptionalBlock → (sealed_part : List ℕ) → HasSealedPart text sealed_part → AllPass is_hex_digit sealed_part
-    → MetBefore text Mac
-met_digits text met sealed_part is digits key Length below = met key Length (omega arith)
-met_digits text met sealed_part is digits key Version below = met key Version (omega arith)
-met_digits text met sealed_part is digits key HeaderField below = met key HeaderField (omega arith)
-met_digits text met sealed_part is digits key OptionalBlock below = (sealed_part, is)
-met_digits text met sealed_part is digits key Hex below = (sealed_part, is, digits)
-met_digits text met sealed_part is digits key Mac below = absurd (omega arith)
-met_digits text met sealed_part is digits key Payload below = absurd (omega arith)
-met_digits text met sealed_part is digits key PadLength below = absurd (omega arith)
 
 -- one character in front
 pub take_one : (text : List ℕ) (character : ℕ) → 0 < length text → get_or text 0 0 ≡ character → take 1 text ≡ character ∷ []

@@ -109,10 +109,6 @@ adds_one ksn used now one_more other = (
   ],
 )
 
--- none more
-pub adds_none : (used : Numbers) → AddsAll [] used used
-adds_none used other = (λ is_used. inl is_used, λ either. elim either [ inl before ↦ before | inr contains ↦ absurd (none_in other contains) ])
-
 -- the used numbers are those of the entries, with one more
 pub used_more : (entries : Entries) (entry : Entry) (used mid now : Numbers) → AreUsedBy entries used → IsUsable entry.number.counter → MayStandUnder entry.number entry.decided → ¬ Contains (used_by entries) entry.number
     → IsOneMore used entry.number mid → AddsAll (reversed_in entry.number entry.decided) mid now → AreUsedBy (entries ++ entry ∷ []) now

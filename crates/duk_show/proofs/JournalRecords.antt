@@ -1,9 +1,9 @@
 -- The records of a journal, one after another.
-use Rattle.std.proofs.Common.{◌≡◌, ◌⊎◌, ◌+◌, ◌-◌, ◌*◌, ◌/◌, ◌≤◌, ◌∷◌, ◌++◌, [], inl, inr, ℕ, zero, suc, List, Option, Some, None, Contains, length, drop, take, get_or, refl, sym, subst, ap, ◌∙◌, length-append, arith}
+use Rattle.std.proofs.Common.{◌≡◌, ◌⊎◌, ◌+◌, ◌-◌, ◌*◌, ◌/◌, ◌≤◌, ◌∷◌, ◌++◌, [], inl, inr, ℕ, zero, suc, List, Option, Some, None, Contains, length, drop, take, refl, sym, subst, ap, ◌∙◌, length-append, arith}
 use Rattle.std.proofs.lemmas.Bool.{cases_lt}
-use Rattle.std.proofs.lemmas.List.{drop_all, get_or-drop, get_or-take}
+use Rattle.std.proofs.lemmas.List.{drop_all}
 use Rattle.duk_journal.specs.Groups.{AreClosedFrom, AreKeptFrom, Entries, HasContents}
-use Rattle.duk_journal.specs.RecordFormat.{IsOpen, contents_of, gate_of, record_at}
+use Rattle.duk_journal.specs.RecordFormat.{IsOpen, contents_of, record_at}
 use Rattle.duk_journal.specs.declared.entry.Entry.{Entry}
 use Rattle.duk_journal.specs.declared.record_format.Contents.{Contents}
 use Rattle.duk_show.specs.Journal.{BeginsJournal, GoesOn, IsCutRecord, IsJournal, IsJournalRefused, StandFrom}
@@ -12,12 +12,6 @@ use Rattle.duk_show.specs.declared.fault.ShowFault.{ShowFault}
 use Rattle.duk_show.specs.declared.fault.ShowFault.TheVariants.{JournalRefused, OutOfMemory}
 use Rattle.duk_show.specs.inner.Journal.{AreClosedBetween, AreGroups, IsLeftAfter, IsNextIn, IsNotNew, IsOpenAt, IsRecordNotTaken, IsRecordTaken}
 use Rattle.duk_show.proofs.JournalNumbers.{new_number}
-
--- the gate of a record, as a byte of the journal
-pub gate_is : (place : ℕ) (bytes : List ℕ) → gate_of (record_at place bytes) ≡ get_or bytes (32 * place) 0
-gate_is place bytes =
-    let here : 32 * place + 0 ≡ 32 * place = omega arith in
-    get_or-take 32 (drop (32 * place) bytes) 0 0 (omega arith) ∙ get_or-drop (32 * place) bytes 0 0 ∙ ap (λ (i : ℕ). get_or bytes i 0) here
 
 -- a record as it is cut out of the bytes
 pub same_record : (bytes : List ℕ) (place : ℕ) → take ((32 * place + 32) - 32 * place) (drop (32 * place) bytes) ≡ record_at place bytes
@@ -223,20 +217,6 @@ open_behind one entries bytes place groups found =
       closed = closed;
       whole = λ less. refl;
     }
-
--- no record, or one that is not whole
-pub no_size : OneContents → (entries : Entries) (bytes : List ℕ) (place : ℕ) → AreGroups bytes entries → place ≡ length bytes / 32 → AreClosedBetween (length entries) place bytes → (length bytes ≡ 32 * place → place ≡ 0)
-    → IsJournalRefused bytes (JournalRefused place)
-no_size one entries bytes place groups end closed none =
-    let begins : BeginsJournal place 0 entries bytes = record {
-      within = omega (arith, groups.within, end);
-      stand = groups.begins.stand;
-      usable = groups.begins.usable;
-      closed = closed;
-      whole = λ less. refl;
-    } in
-    let cut : IsCutRecord place bytes = record { begins = omega (arith, end); ends = omega (arith, end); some = none } in
-    damaged one place 0 entries bytes begins (inl cut)
 
 -- all of it is a journal
 pub all_kept : (entries : Entries) (bytes : List ℕ) (records : ℕ) → AreGroups bytes entries → records ≡ length bytes / 32 → AreClosedBetween (length entries) records bytes → 1 ≤ records → length bytes ≡ 32 * records

@@ -1,8 +1,8 @@
 -- The terminals of a journal's entries, as an index finds them.
-use Rattle.std.proofs.Common.{◌≡◌, ◌≤◌, ◌<◌, ◌+◌, ◌∷◌, ◌++◌, [], ◌||◌, inl, inr, ℕ, suc, Bool, true, false, cond, if◌then◌else◌, List, Option, None, Some, IfSome, is_some, length, flat_map, take, drop, get_or, add-one, drop-cons, refl, ap, sym, subst, ◌∙◌, append_assoc, length-append, nat_eq, ◌^◌, arith}
+use Rattle.std.proofs.Common.{◌≡◌, ◌≤◌, ◌<◌, ◌+◌, ◌∷◌, ◌++◌, [], ◌||◌, inl, inr, ℕ, suc, Bool, true, false, cond, if◌then◌else◌, List, Option, None, Some, IfSome, is_some, length, flat_map, take, drop, get_or, add-one, drop-cons, refl, ap, sym, subst, ◌∙◌, append_assoc, length-append, nat_eq, arith}
 use Rattle.std.proofs.lemmas.Bool.Decides.{eqb_tells}
 use Rattle.std.proofs.lemmas.Bool.{eq-eqb}
-use Rattle.std.proofs.lemmas.List.{append-nil, drop_all, length-take, take_more}
+use Rattle.std.proofs.lemmas.List.{append-nil, drop_all, take_more}
 use Rattle.std.proofs.lemmas.List.Folds.{list_any-append}
 use Rattle.std.proofs.lemmas.List.Sums.{sum_by-cons}
 use Rattle.std.proofs.lemmas.Map.Keys.{IsDistinct-head, IsDistinct-tail}
@@ -17,7 +17,7 @@ use Rattle.duk_show.specs.Log.{last_after}
 use Rattle.duk_show.specs.Standing.{is_payment, is_undone, standing_amount}
 use Rattle.duk_show.specs.declared.journal_tallies.Payer.{Payer}
 use Rattle.duk_show.specs.declared.journal_tallies.Share.{Share}
-use Rattle.duk_show.specs.inner.JournalTallies.{ArePayers, HasRoom, IsSmall, IsWithin, line_with, next_payer, payer_line, share_of, with_own, with_share}
+use Rattle.duk_show.specs.inner.JournalTallies.{ArePayers, IsSmall, IsWithin, line_with, next_payer, payer_line, share_of, with_own, with_share}
 
 -- the line of a terminal with the same numbers is the same
 same_line : (first last : Serial) (p q a b u v : ℕ) → p ≡ q → a ≡ b → u ≡ v → terminal_line first last p a u ≡ terminal_line first last q b v
@@ -182,17 +182,3 @@ whole entries place known all are =
     let before : Entries = take place entries in
     let at_end : ArePayers before [] entries known = subst (λ (rest : Entries). ArePayers before rest entries known) (drop_all place entries all) are in
     sym (as_they_stand entries known) ∙ sym (append-nil (flat_map (line_with entries []) known)) ∙ at_end.lines
-
--- a terminal among the entries so far has room for one more
-room_in : (most : ℕ) (old : Option Payer) → most < 2 ^ 63 → IfSome old (IsWithin most) → IfSome old HasRoom
-room_in most None few fits = tt
-room_in most (Some payer) few fits = record {
-  payments = omega (arith, few, fits.payments_in);
-  approved = omega (arith, few, fits.approved_in);
-  undone = omega (arith, few, fits.undone_in);
-}
-
-pub has_room : (entries : Entries) (place iksn : ℕ) (known : List (ℕ × Payer)) → length entries < 2 ^ 63 → ArePayers (take place entries) (drop place entries) entries known
-    → IfSome (lookup (nat_eq iksn) known) HasRoom
-has_room entries place iksn known few are =
-    room_in (length (take place entries)) (lookup (nat_eq iksn) known) (omega (arith, few, length-take place entries)) (are.fits iksn)

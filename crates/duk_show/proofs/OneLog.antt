@@ -65,12 +65,6 @@ front_number [] d ksn k within = absurd (omega (arith, within))
 front_number (first ∷ numbers) d ksn zero within = refl
 front_number (first ∷ numbers) d ksn (suc k) within = front_number numbers d ksn k (omega (arith, within))
 
--- no list of usable numbers has one at its end that numbers no transaction
-pub unusable_last : (numbers : Numbers) (ksn : Serial) → ¬ IsUsable ksn.counter → ¬ AreUsable (numbers ++ ksn ∷ [])
-unusable_last numbers ksn unusable are =
-    unusable (subst (λ (number : Serial). IsUsable number.counter) (last_number numbers ksn ksn)
-    (are.usable (length numbers) ksn (omega (arith, length-append numbers (ksn ∷ [])))))
-
 -- nor one that stands before
 used_last : (numbers : Numbers) (ksn : Serial) → Contains numbers ksn → ¬ AreUsable (numbers ++ ksn ∷ [])
 used_last numbers ksn (k, within, is) are =

@@ -1,20 +1,15 @@
 -- The payments that stand, as the set of reversed numbers tells them.
-use Rattle.std.proofs.Common.{◌≡◌, ◌≢◌, ◌↔◌, ◌⊎◌, ◌||◌, ◌&&◌, ◌<◌, ◌^◌, inl, inr, ℕ, Bool, true, false, true≢false, List, [], ◌∷◌, Contains, IsTrue, ap, refl, sym, ◌∙◌, subst, nat_eq}
+use Rattle.std.proofs.Common.{◌≡◌, ◌≢◌, ◌↔◌, ◌⊎◌, ◌||◌, ◌&&◌, inl, inr, ℕ, Bool, true, false, true≢false, [], ◌∷◌, Contains, IsTrue, ap, refl, sym, ◌∙◌, subst, nat_eq}
 use Rattle.std.proofs.lemmas.Bool.Decides.{eqb_tells}
 use Rattle.std.proofs.lemmas.List.Elements.{Contains-append_left, Contains-append_right}
 use Rattle.std.specs.List.{list_any}
 use Rattle.duk_host.specs.Used.{IsUsed}
 use Rattle.duk_journal.specs.Groups.{Entries}
 use Rattle.duk_store.specs.Log.{Numbers}
-use Rattle.duk_tree.specs.Path.{IsPath, IsUsable, value_of}
 use Rattle.duk_tree.specs.Serial.{Serial}
 use Rattle.duk_show.specs.Standing.{is_number, is_reversed, reversed_numbers}
 use Rattle.duk_show.specs.inner.Journal.{AreThose}
 use Rattle.duk_show.proofs.JournalNumbers.{front_or, none_in, the_one}
-
--- a usable counter is one of 21 bits
-pub usable_fits : ((path : List ℕ) → IsPath path → value_of path < 2 ^ 21) → (counter : ℕ) → IsUsable counter → counter < 2 ^ 21
-usable_fits paths counter usable = subst (λ value. value < 2 ^ 21) usable.value_is (paths usable.path usable.path_is)
 
 same_or_not : (n m : Serial) → ((is_number n m ≡ true) × (m ≡ n)) ⊎ ((is_number n m ≡ false) × (m ≢ n))
 same_or_not n m = elim (eqb_tells n.iksn m.iksn) [

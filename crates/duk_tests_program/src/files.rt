@@ -3,7 +3,7 @@
 ghost use Rattle.std.proofs.Common.{rules};
 ghost use Rattle.std.specs.Option.{option_map};
 ghost use Rattle.std.specs.Prelude.{◌≡◌, ⊤, IfErr, IfOk, None, Some, false};
-ghost use Rattle.duk_arguments.specs.declared.request.Request.{Request};
+ghost use Rattle.duk_arguments.specs.Request.{Written};
 ghost use Rattle.duk_program.specs.Own.{MayUseOwn};
 ghost use Rattle.duk_service.specs.LogFiles.{unknown_making};
 ghost use Rattle.duk_service.specs.declared.file_system.FileFault.TheVariants.{NoMemory};
@@ -224,7 +224,7 @@ fn of_command<S: FileSystem + LogFiles>(
     files: &S,
     command: &[&str],
 ) -> Option<(u8, Vec<u8>, Vec<u8>)>
-    requires { (asked : Request) → MayUseOwn (S.may_write files.now) (S.may_make files.now) asked }
+    requires { (asked : Written) → MayUseOwn (S.may_write files.now) (S.may_make files.now) asked }
 {
     let mut arguments = arguments_of(alloc, command).ok()?;
     let (mut output, mut fault) = (Vec::new(alloc), Vec::new(alloc));
@@ -267,7 +267,7 @@ fn files_that_are_known(rt: HostRuntime) {
 
 /// Whether a service over such files answers the first request.
 fn serves<S: FileSystem + LogFiles>(alloc: Global, files: &S, command: &[&str]) -> Option<bool>
-    requires { (asked : Request) → MayUseOwn (S.may_write files.now) (S.may_make files.now) asked }
+    requires { (asked : Written) → MayUseOwn (S.may_write files.now) (S.may_make files.now) asked }
 {
     let (status, output, fault) = of_command(alloc, files, command)?;
     Some(status == 0 && output.as_slice() == FIRST_REPLY.as_slice() && fault.is_empty())

@@ -1,1 +1,5 @@
+mod Added
 mod AnyFile
+mod Parts
+mod Said
+mod Told

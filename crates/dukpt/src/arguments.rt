@@ -17,9 +17,16 @@ pub fn refuse_arguments<F: Sink>(error: &io::Error, fault: &mut F) -> u8
     ensures { IsStatus result }
 {
     if error.kind() == io::ErrorKind::OutOfMemory {
-        tell(fault, Fault::OutOfMemory.line().as_slice());
-        return 1;
+        return refuse_memory(fault);
     }
     tell(fault, b"error: a word is not UTF-8\n");
     2
+}
+
+/// Reports that there is no memory to read the arguments, and gives the status.
+pub fn refuse_memory<F: Sink>(fault: &mut F) -> u8
+    ensures { IsStatus result }
+{
+    tell(fault, Fault::OutOfMemory.line().as_slice());
+    1
 }

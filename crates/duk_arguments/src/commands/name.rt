@@ -2,7 +2,7 @@
 
 /// A command of the program.
 #[derive(Clone, Copy)]
-pub(crate) enum CommandName {
+pub enum CommandName {
     /// `derive`
     Derive,
     /// `walk`

@@ -2,19 +2,20 @@
 use Rattle.std.specs.Prelude.{◌≡◌, ℕ, List, Err, Ok, Result}
 use Rattle.std.specs.Option.{option_copied}
 use Rattle.duk_commands.specs.Fault.{report_line}
-use Rattle.duk_program.specs.Items.{LineItems, blocks, frames, images, keys, numbers, pans, pins}
+use Rattle.duk_program.specs.Items.{LineItems, blocks, frames, images, key_blocks, keys, numbers, pans, pins}
 use Rattle.duk_program.specs.declared.items.ItemFault.{ItemFault}
 use Rattle.duk_program.specs.declared.items.ItemFault.TheVariants as fault
 use Rattle.duk_program.specs.declared.items.LineCommand.{LineCommand}
-use Rattle.duk_program.specs.declared.items.LineCommand.TheVariants.{Blocks, Derive, Frames, Images, Kcv, Pans, Pins}
+use Rattle.duk_program.specs.declared.items.LineCommand.TheVariants.{Blocks, Derive, Frames, Images, Kcv, Pans, Pins, Unwrap}
 use Rattle.duk_show.specs.Fault.{show_line}
 
 -- the items of a command
 abbrev pub items_in : LineCommand → LineItems
-items_in (Derive items) = numbers items.bdk items.initial items.trace items.all
+items_in (Derive items) = numbers items.bdk.now items.initial items.trace items.all
 items_in Kcv = keys
 items_in (Pins pan key) = pins pan.now (option_copied key)
 items_in (Pans pin key) = pans pin.now (option_copied key)
+items_in (Unwrap kbpk) = key_blocks kbpk.now
 items_in Frames = frames
 items_in Blocks = blocks
 items_in (Images show) = images show

@@ -1,8 +1,10 @@
-//! Keys, texts and numbers that are refused.
+//! Arguments that are refused, by their names.
 
-use crate::explaining::seen::{Digits, Found, Measure, Seen};
-use crate::explaining::texts::{Kind, decimal, hexadecimal, measure_of, plain_text, text};
-use duk_arguments::{Request, Sought};
+use crate::explaining::paths::File;
+use crate::explaining::seen::{Found, Seen};
+use crate::explaining::texts::{About, Kind, measured};
+use crate::message::{Message, message_of};
+use duk_arguments::CommandName;
 use duk_commands::read_decimal;
 use duk_tree::{Iksn, Ksn};
 
@@ -21,150 +23,136 @@ const MOST_NUMBERS: u32 = 1_048_576;
 /// How many initial key serial numbers a key set has.
 const KEY_SET_SIZE: u32 = 524_288;
 
-/// A base derivation key, or an initial key.
-pub(crate) fn bdk(about: &Request<'_>) -> Seen {
-    hexadecimal(about, "BDK").wanted(DOUBLE)
+/// What is told of the argument with this name, which is refused.
+pub(crate) fn refused(about: About<'_, '_>, name: &'static str) -> Seen {
+    about.seen(name, kind_of(about, name), wanted_of(about, name))
 }
 
-/// A PAN.
-pub(crate) fn pan(about: &Request<'_>) -> Seen {
-    decimal(about, "PAN").wanted("12 to 19 decimal digits")
-}
-
-/// An enciphered block.
-pub(crate) fn block(about: &Request<'_>, name: &'static str) -> Seen {
-    hexadecimal(about, name).wanted("16 hexadecimal digits")
-}
-
-/// A frame, of which more is wanted than digits.
-pub(crate) fn frame(about: &Request<'_>, name: &'static str) -> Seen {
-    hexadecimal(about, name).helped("show frame tells its fields")
-}
-
-/// A key, or the first of several that is refused.
-pub(crate) fn key(about: &Request<'_>) -> Seen {
-    match about {
-        Request::Kcv { keys, .. } => key_among(keys.texts().as_slice()),
-        Request::Wrap { .. } | Request::Mac { cmac: true, .. } | Request::Data { .. } => {
-            hexadecimal(about, "KEY").wanted(DOUBLE_OR_TRIPLE)
+/// A TEXT. Of one that refers to other bytes these are not told.
+pub(crate) fn text(about: About<'_, '_>) -> Seen {
+    let wanted = wanted_of(about, "TEXT");
+    match message_of(about.text("TEXT", 0)) {
+        Message::Own(text) => {
+            Seen::new("TEXT", measured(kind_of(about, "TEXT"), text)).wanted(wanted)
         }
-        _ => hexadecimal(about, "KEY").wanted(DOUBLE),
+        Message::File(_) | Message::Input => {
+            Seen::new("TEXT", Found::Words("other bytes"))
+                .of(File::Reference)
+                .wanted(wanted)
+        }
     }
 }
 
-/// The first of some keys that is none, or else the first that has not the length of the first.
-fn key_among(keys: &[&str]) -> Seen {
-    if let Some(place) = keys.iter().position(|key| !is_key(key)) {
-        return key_at(keys, place).wanted(DOUBLE_OR_TRIPLE);
+/// Which bytes are wanted of an argument.
+fn kind_of(about: About<'_, '_>, name: &str) -> Kind {
+    let has = |option: &str| about.request.flag(option);
+    match name {
+        "AMOUNT" | "COUNT" | "K" | "N" | "PAN" | "PIN" | "RECORDS" => Kind::Decimal,
+        "FIELDS" | "KIND" => Kind::Any,
+        "TEXT" if !(has("hex") || has("decipher")) => Kind::Any,
+        _ => Kind::Hexadecimal,
     }
-    let other = keys.iter().position(|key| key.len() != keys[0].len());
-    key_at(keys, other.unwrap_or(0)).wanted("as many digits as KEY 1")
 }
 
-/// The key at a place of some.
-fn key_at(keys: &[&str], place: usize) -> Seen {
-    let key = keys.get(place).copied().unwrap_or("");
-    let mut seen = Seen::new("KEY", Found::Text(measure_of(Kind::Hexadecimal, key)));
-    if keys.len() > 1 {
-        seen.place = place.checked_add(1);
+/// What is wanted of an argument.
+fn wanted_of(about: About<'_, '_>, name: &str) -> &'static str {
+    let has = |option: &str| about.request.flag(option);
+    match (name, about.request.command()) {
+        ("AMOUNT", _) => "a number up to 4294967295",
+        ("ANSWER", _) => "the frame of a reply or of a refusal; show frame tells its fields",
+        ("COUNT" | "K", _) => "a number up to 1048576",
+        ("FIELDS", _) => "7 bytes",
+        ("IKSN", _) => "20 hexadecimal digits, the last 21 bits zeros",
+        ("KBPK" | "LOADING" | "ZONE", _) => DOUBLE_OR_TRIPLE,
+        ("KCV", _) => "6 hexadecimal digits",
+        ("KEY", CommandName::Wrap | CommandName::Data) => DOUBLE_OR_TRIPLE,
+        ("KEY", _) if has("cmac") => DOUBLE_OR_TRIPLE,
+        ("BDK" | "KEY", _) => DOUBLE,
+        ("KIND", _) => "frame, block, image, log or journal",
+        ("KSN" | "NUMBER", _) => "20 hexadecimal digits",
+        ("N", _) => "1 to 100000",
+        ("PAN", _) => "12 to 19 decimal digits",
+        ("PIN", _) => "4 to 12 decimal digits",
+        ("RECORDS", _) => "1 to 1000000000",
+        ("REQUEST", _) => {
+            "the frame of a request or a reversal whose number is usable; \
+            show frame tells its fields"
+        }
+        ("TEXT", CommandName::Data) if has("hex") || has("decipher") => {
+            "16 hexadecimal digits for each of 1 to 255 blocks"
+        }
+        ("TEXT", CommandName::Data) => "8 bytes for each of 1 to 255 blocks",
+        ("TEXT", _) if !has("hex") => "one byte or more",
+        ("TEXT" | "PAD", _) => PAIRS,
+        ("WHAT", _) if !(has("text") || has("pan") || has("clear")) => {
+            "the frame of a request, a reversal or a reply, which has a MAC; \
+            show frame tells its fields"
+        }
+        _ => "16 hexadecimal digits",
     }
-    seen
+}
+
+/// A key; of several the first that is none, or else the first whose length is not that of KEY 1.
+pub(crate) fn key(about: About<'_, '_>) -> Seen {
+    if !matches!(about.request.command(), CommandName::Kcv) {
+        return refused(about, "KEY");
+    }
+    let count = about.request.count("KEY");
+    let length = about.text("KEY", 0).len();
+    let none = (0..count).find(|place| !is_key(about.text("KEY", *place)));
+    let other = (0..count).find(|place| about.text("KEY", *place).len() != length);
+    let (place, wanted) = match none {
+        Some(place) => (place, DOUBLE_OR_TRIPLE),
+        None => (other.unwrap_or(0), "as many digits as KEY 1"),
+    };
+    let seen = about.seen_at("KEY", place, Kind::Hexadecimal);
+    seen.wanted(wanted)
 }
 
 /// Whether a text is a key of 16 or 24 bytes.
 fn is_key(text: &str) -> bool {
-    let measure = measure_of(Kind::Hexadecimal, text);
-    matches!(measure.length, 32 | 48) && measure.wrong.is_none()
-}
-
-/// The text of a MAC, or of what is enciphered or deciphered.
-pub(crate) fn message(about: &Request<'_>) -> Seen {
-    let (kind, wanted) = match about {
-        Request::Mac { hex: true, .. }
-        | Request::Find {
-            sought: Sought::Mac { hex: true, .. },
-            ..
-        } => (Kind::Hexadecimal, PAIRS),
-        Request::Data { decipher, hex, .. } if *decipher || *hex => (
-            Kind::Hexadecimal,
-            "16 hexadecimal digits for each of 1 to 255 blocks",
-        ),
-        Request::Data { .. } => (Kind::Any, "8 bytes for each of 1 to 255 blocks"),
-        _ => (Kind::Any, "one byte or more"),
-    };
-    text(about, "TEXT", kind).wanted(wanted)
-}
-
-/// A key serial number.
-pub(crate) fn ksn(about: &Request<'_>) -> Seen {
-    with_prefix(hexadecimal(about, "KSN")).wanted("20 hexadecimal digits")
+    matches!(
+        measured(Kind::Hexadecimal, text),
+        Found::Text(32 | 48, None)
+    )
 }
 
 /// An initial key serial number: a byte is wrong that is no hexadecimal digit, and in 20 digits the
-/// first that has a one bit of the counter.
-pub(crate) fn iksn(about: &Request<'_>) -> Seen {
-    let mut seen = with_prefix(hexadecimal(about, "IKSN"));
-    if let Some(ksn) = Ksn::parse(plain_text(about, "IKSN")) {
-        let wrong = first_one(ksn.counter());
-        seen.found = Found::Text(Measure { length: 20, wrong });
-    }
-    seen.wanted("20 hexadecimal digits, the last 21 bits zeros")
-}
-
-/// A number, and what helps where it lacks its first four digits.
-fn with_prefix(seen: Seen) -> Seen {
-    match seen.found {
-        Found::Text(measure) if measure.length == 16 && measure.wrong.is_none() => {
-            seen.helped("write FFFF before it")
-        }
-        _ => seen,
-    }
-}
-
-/// The first of 20 digits that has a one bit of a counter, which are the last 21 bits.
-fn first_one(counter: u32) -> Option<usize> {
-    for place in 14..20u32 {
-        if counter >> (4 * (19 - place)) != 0 {
-            return Some(place as usize);
-        }
-    }
-    None
+/// first that has a one bit of the counter, which are the last 21 bits.
+pub(crate) fn iksn(about: About<'_, '_>) -> Seen {
+    let counter = Ksn::parse(about.text("IKSN", 0)).map(|ksn| ksn.counter());
+    let wrong = counter.map(|counter| 12 + counter.leading_zeros() as usize / 4);
+    refused(about, "IKSN").with(wrong.map(|wrong| Found::Text(20, Some(wrong))))
 }
 
 /// A key serial number whose counter numbers no transaction.
-pub(crate) fn counter(about: &Request<'_>) -> Seen {
-    let ksn = Ksn::parse(plain_text(about, "KSN"));
+pub(crate) fn counter(about: About<'_, '_>) -> Seen {
+    let ksn = Ksn::parse(about.text("KSN", 0));
     let ones = ksn.map_or(0, |ksn| ksn.counter().count_ones());
-    Seen::new("KSN", Found::Ones(ones))
-        .wanted("1 to 10")
-        .helped("walk prints the numbers that a terminal uses")
+    let wanted = "1 to 10; walk prints the numbers that a terminal uses";
+    Seen::new("KSN", Found::Ones(ones)).wanted(wanted)
 }
 
 /// COUNT of `walk`, or its K.
-pub(crate) fn walk_count(about: &Request<'_>) -> Seen {
-    let name = match read_decimal(plain_text(about, "COUNT"), MOST_NUMBERS) {
-        Some(_) => "K",
-        None => "COUNT",
-    };
-    decimal(about, name).wanted("a number up to 1048576")
+pub(crate) fn walk_count(about: About<'_, '_>) -> Seen {
+    match read_decimal(about.text("COUNT", 0), MOST_NUMBERS) {
+        Some(_) => refused(about, "K"),
+        None => refused(about, "COUNT"),
+    }
 }
 
-/// COUNT of `issue`.
-pub(crate) fn issue_count(about: &Request<'_>) -> Seen {
-    let mut seen = Seen::new("COUNT", count_found(plain_text(about, "COUNT")));
-    if let Some(first) = Iksn::parse(plain_text(about, "IKSN")) {
-        seen.left = Some(numbers_left(first));
+/// COUNT of `issue`: the number itself, where it has at most 20 digits.
+pub(crate) fn issue_count(about: About<'_, '_>) -> Seen {
+    let mut seen = about.seen(
+        "COUNT",
+        Kind::Decimal,
+        "as many as are left in IKSN's key set",
+    );
+    if let (Found::Text(1..=20, None), Ok(number)) = (seen.found, about.text("COUNT", 0).parse()) {
+        seen.found = Found::Count(number, about.text("COUNT", 0).len());
     }
-    seen.wanted("as many as are left in IKSN's key set")
-}
-
-/// What is told of a count: the number itself, where it has at most 20 digits.
-fn count_found(text: &str) -> Found {
-    let measure = measure_of(Kind::Decimal, text);
-    if text.is_empty() || text.len() > 20 || measure.wrong.is_some() {
-        return Found::Text(measure);
-    }
-    Found::Number(Digits::new(text.as_bytes()), "")
+    seen.left = Iksn::parse(about.text("IKSN", 0)).map(numbers_left);
+    seen
 }
 
 /// How many initial key serial numbers are left in the key set of one, from that on.

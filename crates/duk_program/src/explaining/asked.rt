@@ -2,85 +2,101 @@
 
 ghost use Rattle.duk_program.specs.Own.{MayUseOwn};
 
-use crate::explaining::paths::{File, Path};
+use crate::explaining::paths::path_of;
 use crate::explaining::places::line_of_fault;
 use crate::explaining::records::wrong_record_in;
 use crate::explaining::seen::{Found, Seen};
-use crate::explaining::unread::with_reference;
+use crate::explaining::texts::text_of;
 use crate::fault::Fault;
+use crate::message::{Message, message_of};
+use crate::references::{path_in, refers_to_input};
 use crate::secrets::SecretFault;
 use crate::show::LONGEST_LOG;
-use duk_arguments::{Kept, Request};
-use duk_config::{LONGEST_FILE, ScriptFault};
-use duk_host::HostFault;
-use duk_issue::IssueFault;
-use duk_service::copy_journal::CopyJournalFault;
-use duk_service::new_file::NewFileFault;
-use duk_service::{
-    Access, FileSystem, LogFiles, OpenFault, Reason, RecordFormat, ServeFault, Strange, strange_in,
-};
-use duk_show::ShowFault;
+use duk_arguments::{CommandName, Entry, Request};
+use duk_config::LONGEST_FILE;
+use duk_service::{Access, FileSystem, LogFiles, Reason, RecordFormat, Strange, strange_in};
 use std::alloc::Global;
 
-/// What is told of a fault, and what files tell of it beside. No file is opened to be written, and
-/// none is made, but the request's own.
-pub(crate) fn with_files<S: FileSystem + LogFiles>(
+/// What files tell of a fault beside what is seen of it. No file is opened to be written, and none
+/// is made, but the request's own.
+pub(crate) fn found_in_files<S: FileSystem + LogFiles>(
     alloc: Global,
     files: &S,
     about: &Request<'_>,
     why: &Fault,
-    seen: Seen,
-) -> Seen
+    seen: &Seen,
+) -> Option<Found>
     requires { MayUseOwn (S.may_write files.now) (S.may_make files.now) about.now }
 {
-    match why {
-        Fault::Secret(SecretFault::Unread(secret, why)) => {
-            with_reference(alloc, files, about, *secret, *why, seen)
+    match seen.found {
+        Found::Config(_) => found_in_config(alloc, files, about, why, seen),
+        Found::Records(format, _) => {
+            wrong_records(alloc, files, about, path_of(about, seen)?, format)
         }
-        Fault::Script(why) if matches!(seen.file, Some(File::Config)) => {
-            match wrong_line(alloc, files, about, why) {
-                Some(line) => seen.with(Found::Line(line)),
-                None => seen,
-            }
-        }
-        Fault::Issue(IssueFault::LedgerDamaged) => {
-            with_records(alloc, files, about, RecordFormat::Log, seen)
-        }
-        Fault::Serve(
-            ServeFault::NotOpened(format, OpenFault::Failed | OpenFault::Foreign)
-            | ServeFault::Host(format, HostFault::Store(_) | HostFault::Stopped)
-            | ServeFault::StoreAndAnswers(format),
-        ) => with_records(alloc, files, about, *format, seen),
-        Fault::CopyJournal(CopyJournalFault::Failed) => {
-            with_records(alloc, files, about, RecordFormat::Journal, seen)
-        }
-        _ => seen.refused(reason_of(files, about, why, &seen)),
+        Found::Unread(_) => found_unread(alloc, files, about, why, seen),
+        Found::Unopened(_) => unopened_reason(files, about).map(Found::Unopened),
+        Found::Unmade(_) => unmade_reason(files, about).map(Found::Unmade),
+        _ => None,
     }
 }
 
-/// What the system says of the file that a fault is about.
-fn reason_of<S: FileSystem + LogFiles>(
+/// The line of the configuration that is wrong.
+fn found_in_config<S: FileSystem>(
+    alloc: Global,
     files: &S,
     about: &Request<'_>,
     why: &Fault,
     seen: &Seen,
-) -> Option<Reason>
-    requires { MayUseOwn (S.may_write files.now) (S.may_make files.now) about.now }
-{
-    match why {
-        Fault::ConfigUnread
-        | Fault::Script(ScriptFault::CannotRead)
-        | Fault::Show(ShowFault::LogUnread | ShowFault::JournalUnread) => {
-            files.reading_reason(Path::of(about, seen.file?)?.text())
-        }
-        Fault::Issue(IssueFault::PaddingUnread) => files.reading_reason(seen.name),
-        Fault::Issue(IssueFault::LedgerUnopened)
-        | Fault::Serve(ServeFault::NotOpened(_, OpenFault::Unopened))
-        | Fault::CopyJournal(CopyJournalFault::Unopened) => unopened_reason(files, about),
-        Fault::Issue(IssueFault::OutUnmade)
-        | Fault::NewFile(_, NewFileFault::Unmade)
-        | Fault::CopyJournal(CopyJournalFault::Unmade) => unmade_reason(files, about),
-        _ => None,
+) -> Option<Found> {
+    let Fault::Script(why) = why else {
+        return None;
+    };
+    let config = files.read_again(alloc, path_of(about, seen)?, LONGEST_FILE)?;
+    line_of_fault(alloc, config.as_slice(), why).map(Found::Line)
+}
+
+/// Why a file is not read: that of the reference which was not, or else that of the fault.
+fn found_unread<S: FileSystem>(
+    alloc: Global,
+    files: &S,
+    about: &Request<'_>,
+    why: &Fault,
+    seen: &Seen,
+) -> Option<Found> {
+    if let Fault::Secret(SecretFault::Unread(secret, _)) = why {
+        let references = about.references(alloc).ok()?;
+        return found_in_reference(files, references.as_slice(), secret.place);
+    }
+    if let Fault::Text(_) = why {
+        return found_in_message(files, text_of(about, "TEXT", 0));
+    }
+    let path = path_of(about, seen).unwrap_or(seen.name);
+    files.reading_reason(path).map(Found::Unread)
+}
+
+/// Why the reference at a place is not read.
+fn found_in_reference<S: FileSystem>(
+    files: &S,
+    references: &[Entry<'_>],
+    place: usize,
+) -> Option<Found> {
+    let path = path_in(references.get(place)?.text)?;
+    let mut before = references.iter().take(place);
+    if path != "-" {
+        files.reading_reason(path).map(Found::Unread)
+    } else if before.any(|entry| refers_to_input(entry.text)) {
+        Some(Found::Words("standard input, read before"))
+    } else {
+        None
+    }
+}
+
+/// Why the bytes of a TEXT are not read.
+fn found_in_message<S: FileSystem>(files: &S, text: &str) -> Option<Found> {
+    match message_of(text) {
+        Message::Own(_) => None,
+        Message::File(path) => files.reading_reason(path).map(Found::Unread),
+        Message::Input => Some(Found::Words("a read failed")),
     }
 }
 
@@ -89,13 +105,13 @@ fn reason_of<S: FileSystem + LogFiles>(
 fn unopened_reason<S: LogFiles>(files: &S, about: &Request<'_>) -> Option<Reason>
     requires { MayUseOwn (S.may_write files.now) (S.may_make files.now) about.now }
 {
-    match about {
-        Request::Serve {
-            kept: Kept::InLog(path) | Kept::InJournal(path),
-            ..
-        } => Some(files.opening_reason(path, Access::Write)),
-        Request::Issue { ledger, .. } => Some(files.opening_reason(ledger, Access::Write)),
-        Request::CopyJournal { old, .. } => Some(files.opening_reason(old, Access::Read)),
+    match about.command() {
+        CommandName::CopyJournal => Some(files.opening_reason(about.text("OLD"), Access::Read)),
+        CommandName::Issue => Some(files.opening_reason(about.text("ledger"), Access::Write)),
+        CommandName::Serve => match about.value("log") {
+            Some(path) => Some(files.opening_reason(path, Access::Write)),
+            None => Some(files.opening_reason(about.value("journal")?, Access::Write)),
+        },
         _ => None,
     }
 }
@@ -104,66 +120,32 @@ fn unopened_reason<S: LogFiles>(files: &S, about: &Request<'_>) -> Option<Reason
 fn unmade_reason<S: LogFiles>(files: &S, about: &Request<'_>) -> Option<Reason>
     requires { MayUseOwn (S.may_write files.now) (S.may_make files.now) about.now }
 {
-    match about {
-        Request::NewLog { file, .. } | Request::NewJournal { file, .. } => {
-            Some(files.making_reason(file))
+    match about.command() {
+        CommandName::NewLog | CommandName::NewJournal => {
+            Some(files.making_reason(about.text("FILE")))
         }
-        Request::CopyJournal { new, .. } => Some(files.making_reason(new)),
-        Request::Issue { way, .. } => Some(files.making_reason(way.out?)),
+        CommandName::CopyJournal => Some(files.making_reason(about.text("NEW"))),
+        CommandName::Issue => Some(files.making_reason(about.value("out")?)),
         _ => None,
     }
 }
 
-/// The same, and what the log, the ledger or the journal is that is none, or else the first record
-/// of a log that is wrong.
-fn with_records<S: FileSystem + LogFiles>(
-    alloc: Global,
-    files: &S,
-    about: &Request<'_>,
-    format: RecordFormat,
-    seen: Seen,
-) -> Seen {
-    let Some(path) = Path::of(about, File::Kept) else {
-        return seen;
-    };
-    match strange_in(files, path.text(), format) {
-        Some(Strange::Empty) => seen.with(Found::Words("empty")).helped(match format {
-            RecordFormat::Log => "make it by dukpt new-log FILE RECORDS",
-            RecordFormat::Journal => "make it by dukpt new-journal FILE RECORDS",
-        }),
-        Some(Strange::Record(place)) => seen.with(Found::Foreign(place)),
-        None => match wrong_record(alloc, files, about, path.text(), format) {
-            Some(place) => seen.with(Found::Record(place)),
-            None => seen,
-        },
-    }
-}
-
-/// The first record of a log or a ledger that is wrong, where it can be read; none of a journal.
-fn wrong_record<S: FileSystem>(
+/// What the log, the ledger or the journal is that is none, or else the first record of a log that
+/// is wrong, where it can be read.
+fn wrong_records<S: FileSystem + LogFiles>(
     alloc: Global,
     files: &S,
     about: &Request<'_>,
     path: &str,
     format: RecordFormat,
-) -> Option<u64> {
-    match format {
-        RecordFormat::Log => {
+) -> Option<Found> {
+    match (strange_in(files, path, format), format) {
+        (Some(Strange::Empty), _) => Some(Found::Empty(format)),
+        (Some(Strange::Record(place)), _) => Some(Found::Foreign(place)),
+        (None, RecordFormat::Log) => {
             let log = files.read_again(alloc, path, LONGEST_LOG)?;
-            wrong_record_in(alloc, about, log.as_slice())
+            wrong_record_in(alloc, about, log.as_slice()).map(Found::Record)
         }
-        RecordFormat::Journal => None,
+        (None, RecordFormat::Journal) => None,
     }
-}
-
-/// The line of the configuration that a fault is about, where it can be read.
-fn wrong_line<S: FileSystem>(
-    alloc: Global,
-    files: &S,
-    about: &Request<'_>,
-    why: &ScriptFault,
-) -> Option<u64> {
-    let path = Path::of(about, File::Config)?.text();
-    let config = files.read_again(alloc, path, LONGEST_FILE)?;
-    line_of_fault(alloc, config.as_slice(), why)
 }

@@ -5,10 +5,7 @@ use crate::explaining::paths::File;
 use crate::explaining::seen::{Found, Seen, words};
 use duk_config::{ConfigKey, ScriptFault};
 use duk_host::HostFault;
-use duk_service::{OpenFault, RecordFormat, ServeFault};
-
-/// What is told of a file where the system says no more.
-pub(crate) const NOT_OPENED: &str = "the system refuses it";
+use duk_service::{OpenFault, Reason, RecordFormat, ServeFault};
 
 /// What is told of a configuration whose line is not found.
 const NO_LINE: &str = "the line was not found";
@@ -19,18 +16,18 @@ const MOST_TEXT: &str = "at most 1048576 bytes";
 /// A configuration or a script.
 pub(crate) fn of_script(why: &ScriptFault) -> Seen {
     match why {
-        ScriptFault::ConfigTooLong => config("a longer file").wanted(MOST_TEXT),
+        ScriptFault::ConfigTooLong => longer("CONFIG").wanted(MOST_TEXT),
         ScriptFault::NotToml => config("other text").wanted("TOML in UTF-8"),
-        ScriptFault::UnknownKey(_) => {
-            config("another key").wanted("lmk, zone, loading, terminals, log, stores, bdk and card")
-        }
+        ScriptFault::UnknownKey(_) => config("another key").wanted(
+            "lmk, zone, loading, terminals, log, stores, bdk and card",
+        ),
         ScriptFault::BadKey(key) => config(NO_LINE).wanted(wanted_of(*key)),
         ScriptFault::BadEntry(key, _) => config(NO_LINE).wanted(wanted_of_entry(*key)),
-        ScriptFault::CannotRead => unread("SCRIPT", File::Script),
-        ScriptFault::TooLong => longer("SCRIPT", File::Script).wanted(MOST_TEXT),
-        ScriptFault::NotAnEvent(line) => Seen::new("SCRIPT", Found::Line(*line))
-            .of(File::Script)
-            .wanted("an event, a comment after # or an empty line"),
+        ScriptFault::CannotRead => unread("SCRIPT"),
+        ScriptFault::TooLong => longer("SCRIPT").wanted(MOST_TEXT),
+        ScriptFault::NotAnEvent(line) => under("SCRIPT", "SCRIPT", Found::Line(*line)).wanted(
+            "an event, a comment after # or an empty line",
+        ),
         ScriptFault::WriteFailed => output(),
         ScriptFault::NoMemory => memory(),
     }
@@ -60,10 +57,12 @@ fn wanted_of_entry(key: ConfigKey) -> &'static str {
 /// A service.
 pub(crate) fn of_serve(why: ServeFault) -> Seen {
     match why {
-        ServeFault::NotOpened(format, OpenFault::Unopened) => unopened(name_of(format), format),
+        ServeFault::NotOpened(format, OpenFault::Unopened) => {
+            unopened(name_of(format), name_of(format), format)
+        }
         ServeFault::NotOpened(format, OpenFault::Failed | OpenFault::Foreign)
         | ServeFault::Host(format, HostFault::Store(_) | HostFault::Stopped)
-        | ServeFault::StoreAndAnswers(format) => failed(format),
+        | ServeFault::StoreAndAnswers(format) => failed(name_of(format), format),
         ServeFault::Host(_, HostFault::Read) => words("input", "a read failed").wanted("frames"),
         ServeFault::Host(_, HostFault::Truncated) => {
             words("input", "a part of a frame").wanted("whole frames")
@@ -76,7 +75,7 @@ pub(crate) fn of_serve(why: ServeFault) -> Seen {
     }
 }
 
-/// What a file of this format is called.
+/// What a file of this format is called, also where it is an argument of `serve`.
 pub(crate) fn name_of(format: RecordFormat) -> &'static str {
     match format {
         RecordFormat::Log => "log",
@@ -84,46 +83,48 @@ pub(crate) fn name_of(format: RecordFormat) -> &'static str {
     }
 }
 
+/// What was found of the file under an argument, by the name that it has in a fault.
+pub(crate) fn under(argument: &'static str, name: &'static str, found: Found) -> Seen {
+    Seen::new(name, found).of(File::Under(argument))
+}
+
 /// A configuration.
 fn config(told: &'static str) -> Seen {
-    words("CONFIG", told).of(File::Config)
+    under("CONFIG", "CONFIG", Found::Config(told))
 }
 
 /// A file that is not read.
-pub(crate) fn unread(name: &'static str, file: File) -> Seen {
-    words(name, NOT_OPENED)
-        .of(file)
-        .wanted("a file that can be read")
+pub(crate) fn unread(name: &'static str) -> Seen {
+    under(name, name, Found::Unread(Reason::Other)).wanted("a file that can be read")
 }
 
 /// A file that is too long.
-pub(crate) fn longer(name: &'static str, file: File) -> Seen {
-    words(name, "a longer file").of(file)
+pub(crate) fn longer(name: &'static str) -> Seen {
+    under(name, name, Found::Words("a longer file"))
 }
 
 /// A log, a ledger or a journal that is not opened and locked.
-pub(crate) fn unopened(name: &'static str, format: RecordFormat) -> Seen {
-    words(name, NOT_OPENED).of(File::Kept).wanted(match format {
+pub(crate) fn unopened(argument: &'static str, name: &'static str, format: RecordFormat) -> Seen {
+    under(argument, name, Found::Unopened(Reason::Other)).wanted(match format {
         RecordFormat::Log => "a log, as new-log makes one, that no other uses",
         RecordFormat::Journal => "a journal, as new-journal makes one, that no other uses",
     })
 }
 
 /// A log or a journal that failed.
-pub(crate) fn failed(format: RecordFormat) -> Seen {
-    words(name_of(format), "wrong records, or a step that failed")
-        .of(File::Kept)
-        .wanted(match format {
-            RecordFormat::Log => "a log as it was kept, on a device that works",
-            RecordFormat::Journal => "a journal as it was kept, on a device that works",
-        })
+pub(crate) fn failed(argument: &'static str, format: RecordFormat) -> Seen {
+    let found = Found::Records(format, "wrong records, or a step that failed");
+    under(argument, name_of(format), found).wanted(match format {
+        RecordFormat::Log => "a log as it was kept, on a device that works",
+        RecordFormat::Journal => "a journal as it was kept, on a device that works",
+    })
 }
 
 /// A file that is not made.
-pub(crate) fn unmade(name: &'static str) -> Seen {
-    words(name, NOT_OPENED)
-        .of(File::New)
-        .wanted("a name that no file has, in a folder with room")
+pub(crate) fn unmade(argument: &'static str, name: &'static str) -> Seen {
+    under(argument, name, Found::Unmade(Reason::Other)).wanted(
+        "a name that no file has, in a folder with room",
+    )
 }
 
 /// An output that is not written.

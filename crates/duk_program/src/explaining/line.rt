@@ -1,110 +1,96 @@
 //! The line that explains a fault.
 
 use crate::explaining::paths::Path;
-use crate::explaining::seen::{Found, Measure, Seen};
+use crate::explaining::seen::{Found, Seen};
 use duk_commands::Lines;
-use duk_io::append_hex;
-use itoa::Buffer;
+use duk_service::{Reason, RecordFormat};
+use std::io::{self, Write};
 
-/// The line of what is told, LF at its end. A path stands behind the name of a file, or where an
-/// argument is the name of one.
+/// The line of what is told, LF at its end, which has room for all of it. A path stands behind the
+/// name of a file, or where an argument is the name of one.
 pub(crate) fn line_of(seen: &Seen, path: Option<Path<'_>>) -> Lines {
     let mut line = Lines::new();
-    if let Found::Foreign(_) = seen.found {
-        add(&mut line, "no ");
-    }
-    add(&mut line, seen.name);
-    if let Some(place) = seen.place {
-        add_counted(&mut line, " ", place as u64, "");
-    }
-    match path {
-        Some(path) if path.is_told() => add_with_path(&mut line, seen, path),
-        _ => add_found(&mut line, seen),
-    }
-    add_wanted(&mut line, seen);
+    let _ = write_line(&mut line, seen, path);
     line
 }
 
-/// Appends what was found, and a path.
-fn add_with_path(line: &mut Lines, seen: &Seen, path: Path<'_>) {
-    if let Found::Text(measure) = seen.found {
-        add(line, ": ");
-        add_length(line, measure.length);
-        add(line, ", a file of that name is there: ");
-        path.add_to(line);
-    } else {
-        add(line, " ");
-        path.add_to(line);
-        add_found(line, seen);
+/// Writes the line.
+fn write_line(line: &mut Lines, seen: &Seen, path: Option<Path<'_>>) -> io::Result<()> {
+    if let Found::Foreign(_) = seen.found {
+        write!(line, "no ")?;
     }
-}
-
-/// Appends what was found.
-fn add_found(line: &mut Lines, seen: &Seen) {
-    add(line, ": ");
-    match seen.found {
-        Found::Text(measure) => add_measure(line, measure),
-        Found::Ones(count) => add_counted(line, "", u64::from(count), " one bits in its counter"),
-        Found::Number(digits, words) => {
-            add_bytes(line, &digits.bytes[..digits.count.min(20)]);
-            add(line, words);
+    write!(line, "{}", seen.name)?;
+    if seen.is_one_of_several {
+        write!(line, " {}", seen.place.saturating_add(1))?;
+    }
+    match (seen.found, path) {
+        (Found::Text(length, _), Some(path)) => {
+            write_found(line, Found::Text(length, None))?;
+            write!(line, ", a file of that name is there: {path}")?;
         }
-        Found::Words(words) => add(line, words),
-        Found::Record(place) => add_counted(line, "record ", place, ""),
-        Found::Foreign(place) => add_counted(line, "record ", place, " is neither open nor zero"),
-        Found::Line(number) => add_counted(line, "line ", number, ""),
+        (found, Some(path)) => {
+            write!(line, " {path}")?;
+            write_found(line, found)?;
+        }
+        (found, None) => write_found(line, found)?,
     }
-}
-
-/// Appends the length of a text, and the place of its first wrong byte.
-fn add_measure(line: &mut Lines, measure: Measure) {
-    add_length(line, measure.length);
-    if let Some(place) = measure.wrong {
-        add_counted(line, ", wrong at ", place as u64, "");
-    }
-}
-
-/// Appends `N bytes`, or `1 byte`.
-fn add_length(line: &mut Lines, length: usize) {
-    let unit = if length == 1 { " byte" } else { " bytes" };
-    add_counted(line, "", length as u64, unit);
-}
-
-/// Appends what is wanted, what helps, where there is such a thing, and LF.
-fn add_wanted(line: &mut Lines, seen: &Seen) {
-    add(line, "; wanted: ");
+    write!(line, "; wanted: ")?;
     if let Some(left) = seen.left {
-        add_counted(line, "1 to ", u64::from(left), ", ");
+        write!(line, "1 to {left}, ")?;
     }
-    add(line, seen.wanted);
-    if !seen.way.is_empty() {
-        add(line, "; ");
-        add(line, seen.way);
+    write!(line, "{}{}\n", seen.wanted, way(seen))
+}
+
+/// Writes what was found.
+fn write_found(line: &mut Lines, found: Found) -> io::Result<()> {
+    write!(line, ": ")?;
+    match found {
+        Found::Text(1, None) => write!(line, "1 byte"),
+        Found::Text(1, Some(place)) => write!(line, "1 byte, wrong at {place}"),
+        Found::Text(length, None) => write!(line, "{length} bytes"),
+        Found::Text(length, Some(place)) => write!(line, "{length} bytes, wrong at {place}"),
+        Found::Count(number, digits) => write!(line, "{number:0digits$}"),
+        Found::Number(number, words) => {
+            for byte in number {
+                write!(line, "{byte:02X}")?;
+            }
+            write!(line, "{words}")
+        }
+        Found::Ones(count) => write!(line, "{count} one bits in its counter"),
+        Found::Words(words) | Found::Config(words) => write!(line, "{words}"),
+        Found::Records(_, words) => write!(line, "{words}"),
+        Found::Unread(why) | Found::Unopened(why) | Found::Unmade(why) => {
+            write!(line, "{}", reason_text(why))
+        }
+        Found::Empty(_) => write!(line, "empty"),
+        Found::Record(place) => write!(line, "record {place}"),
+        Found::Foreign(place) => write!(line, "record {place} is neither open nor zero"),
+        Found::EqualKeys(first, second) => {
+            write!(line, "entries {first} and {second} of bdk have one key")
+        }
+        Found::Line(number) => write!(line, "line {number}"),
     }
-    add(line, "\n");
 }
 
-/// Appends a number in decimal between two texts.
-fn add_counted(line: &mut Lines, before: &str, number: u64, behind: &str) {
-    let mut digits = Buffer::new();
-    add(line, before);
-    add(line, digits.format(number));
-    add(line, behind);
+/// What the system says of a file, in words.
+fn reason_text(reason: Reason) -> &'static str {
+    match reason {
+        Reason::Missing => "no such file",
+        Reason::NoPermission => "no permission",
+        Reason::Folder => "a folder",
+        Reason::InUse => "in use",
+        Reason::There => "there already",
+        Reason::NoFolder => "no such folder",
+        Reason::Other => "the system refuses it",
+    }
 }
 
-/// Appends a byte in hexadecimal.
-pub(crate) fn add_hex(line: &mut Lines, byte: u8) {
-    let mut digits = Lines::new();
-    append_hex(&mut digits, &[byte]);
-    add_bytes(line, digits.as_slice());
-}
-
-/// Appends a text.
-pub(crate) fn add(line: &mut Lines, text: &str) {
-    add_bytes(line, text.as_bytes());
-}
-
-/// Appends bytes; a line has room for all that is told.
-fn add_bytes(line: &mut Lines, bytes: &[u8]) {
-    let _ = line.try_extend_from_slice(bytes);
+/// What helps.
+fn way(seen: &Seen) -> &'static str {
+    match seen.found {
+        Found::Empty(RecordFormat::Log) => "; make it by dukpt new-log FILE RECORDS",
+        Found::Empty(RecordFormat::Journal) => "; make it by dukpt new-journal FILE RECORDS",
+        Found::Text(16, None) if seen.name.ends_with("KSN") => "; write FFFF before it",
+        _ => "",
+    }
 }

@@ -21,21 +21,15 @@ pub(crate) fn line_of_fault(alloc: Global, config: &[u8], why: &ScriptFault) -> 
 
 /// The line at which the reader of TOML stops in what is none. None also where memory is refused.
 fn line_of_stop(alloc: Global, config: &[u8]) -> Option<u64> {
-    match toml::table_from_slice(alloc, config) {
-        Ok(_) => None,
-        Err(error) => {
-            let stop = error.span()?.start;
-            let ends = config[..stop].iter().filter(|byte| **byte == b'\n');
-            Some(number_of(ends.count()))
-        }
-    }
+    let stop = toml::table_from_slice(alloc, config).err()?.span()?.start;
+    let ends = config[..stop].iter().filter(|byte| **byte == b'\n');
+    Some(number_of(ends.count()))
 }
 
 /// The first line about a key.
 fn line_of_key(config: &[u8], key: &str) -> Option<u64> {
-    let config = str::from_utf8(config).ok()?;
-    let place = config.lines().position(|line| is_about(line, key))?;
-    Some(number_of(place))
+    let mut lines = str::from_utf8(config).ok()?.lines();
+    lines.position(|line| is_about(line, key)).map(number_of)
 }
 
 /// The header of an entry of a key.

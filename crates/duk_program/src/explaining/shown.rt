@@ -1,14 +1,13 @@
 //! What is shown, and refused at a place.
 
 use crate::explaining::arguments::PAIRS;
-use crate::explaining::seen::{Found, Measure, Seen};
-use crate::explaining::texts::{Kind, text};
-use duk_arguments::Request;
+use crate::explaining::seen::{Found, Seen};
+use crate::explaining::texts::About;
 use duk_block::BlockFault;
 use duk_show::{FrameFault, ImageFault};
 
 /// A frame.
-pub(crate) fn frame_shown(about: &Request<'_>, place: usize, why: FrameFault) -> Seen {
+pub(crate) fn frame_shown(about: About<'_, '_>, place: usize, why: FrameFault) -> Seen {
     shown(about, place, why == FrameFault::Hex).wanted(match why {
         FrameFault::Hex => PAIRS,
         FrameFault::Length => "the length of the frame in its first two bytes",
@@ -25,7 +24,7 @@ pub(crate) fn frame_shown(about: &Request<'_>, place: usize, why: FrameFault) ->
 }
 
 /// A key block.
-pub(crate) fn block_shown(about: &Request<'_>, place: usize, why: BlockFault) -> Seen {
+pub(crate) fn block_shown(about: About<'_, '_>, place: usize, why: BlockFault) -> Seen {
     shown(about, place, why == BlockFault::Hex).wanted(match why {
         BlockFault::Length => "80 to 512 characters in eights, and their number at 1",
         BlockFault::Version => "B",
@@ -39,7 +38,7 @@ pub(crate) fn block_shown(about: &Request<'_>, place: usize, why: BlockFault) ->
 }
 
 /// A terminal's image.
-pub(crate) fn image_shown(about: &Request<'_>, place: usize, why: ImageFault) -> Seen {
+pub(crate) fn image_shown(about: About<'_, '_>, place: usize, why: ImageFault) -> Seen {
     shown(about, place, why == ImageFault::Hex).wanted(match why {
         ImageFault::Hex => PAIRS,
         ImageFault::Version => "01 or 02",
@@ -52,11 +51,8 @@ pub(crate) fn image_shown(about: &Request<'_>, place: usize, why: ImageFault) ->
 }
 
 /// A text that is shown. The place is told where a character is no digit; else it is a byte's.
-fn shown(about: &Request<'_>, place: usize, is_of_character: bool) -> Seen {
-    let mut seen = text(about, "WHAT", Kind::Any);
-    if let Found::Text(Measure { length, .. }) = seen.found {
-        let wrong = if is_of_character { Some(place) } else { None };
-        seen.found = Found::Text(Measure { length, wrong });
-    }
-    seen
+fn shown(about: About<'_, '_>, place: usize, is_of_character: bool) -> Seen {
+    let length = about.text("WHAT", 0).len();
+    let wrong = if is_of_character { Some(place) } else { None };
+    Seen::new("WHAT", Found::Text(length, wrong))
 }

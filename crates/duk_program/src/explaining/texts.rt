@@ -1,8 +1,80 @@
 //! The texts of arguments, and what is told of one.
 
-use crate::explaining::seen::{Found, Measure, Seen};
-use crate::request_secrets::{secret_at, secrets_of};
-use duk_arguments::{Request, Sought};
+use crate::explaining::seen::{Found, Seen};
+use duk_arguments::{CommandName, Entry, Request, help_name};
+
+/// A request that is explained.
+#[derive(Clone, Copy)]
+pub(crate) struct About<'r, 'a> {
+    /// The request.
+    pub(crate) request: &'r Request<'a>,
+    /// An item, and the name of the argument in whose place it stands.
+    pub(crate) item: Option<(&'static str, &'a str)>,
+}
+
+impl<'a> About<'_, 'a> {
+    /// The text of the argument with this name, of several that at a place; empty where none is.
+    pub(crate) fn text(self, name: &str, place: usize) -> &'a str {
+        match self.item {
+            Some((argument, item)) if argument == name => item,
+            _ => text_of(self.request, name, place),
+        }
+    }
+
+    /// What is told of that argument, of which bytes of this kind are wanted.
+    pub(crate) fn seen_at(self, name: &'static str, place: usize, kind: Kind) -> Seen {
+        self.placed(
+            Seen::new(name, measured(kind, self.text(name, place))),
+            place,
+        )
+    }
+
+    /// The same of that at a place, where there are several with its name.
+    pub(crate) fn placed(self, mut seen: Seen, place: usize) -> Seen {
+        seen.is_one_of_several = self.request.count(seen.name) > 1;
+        seen.place = if seen.is_one_of_several { place } else { 0 };
+        seen
+    }
+
+    /// The same of the only argument with this name, and what is wanted.
+    pub(crate) fn seen(self, name: &'static str, kind: Kind, wanted: &'static str) -> Seen {
+        self.seen_at(name, 0, kind).wanted(wanted)
+    }
+}
+
+/// The text of the argument of a request with this name, of several that at a place; empty where
+/// there is none.
+pub(crate) fn text_of<'a>(request: &Request<'a>, name: &str, place: usize) -> &'a str {
+    entry_of(request, name, place).map_or("", |entry| entry.text)
+}
+
+/// The entry of a request whose argument is called so, of several that at a place.
+pub(crate) fn entry_of<'a>(request: &Request<'a>, name: &str, place: usize) -> Option<Entry<'a>> {
+    let mut left = place;
+    for entry in request.entries() {
+        if called(request.command(), entry.name) == name {
+            if left == 0 {
+                return Some(*entry);
+            }
+            left -= 1;
+        }
+    }
+    None
+}
+
+/// What an argument of a command is called in its help: an option by its value.
+pub(crate) fn called(command: CommandName, name: &'static str) -> &'static str {
+    match name {
+        "bdk-kcv" => "KCV",
+        "from" => "KSN",
+        "iv" => "BLOCK",
+        "reverse" => "NUMBER",
+        "skip" => "K",
+        "text" => "TEXT",
+        "window" => "N",
+        _ => help_name(command, name),
+    }
+}
 
 /// Which bytes are wanted of a text.
 #[derive(Clone, Copy)]
@@ -30,105 +102,7 @@ impl Kind {
 }
 
 /// The length of a text, and its first byte that is not of this kind.
-pub(crate) fn measure_of(kind: Kind, text: &str) -> Measure {
-    Measure {
-        length: text.len(),
-        wrong: text.as_bytes().iter().position(|byte| !kind.has(*byte)),
-    }
-}
-
-/// What is told of the argument with this name, of which bytes of this kind are wanted.
-pub(crate) fn text(about: &Request<'_>, name: &'static str, kind: Kind) -> Seen {
-    let text = secret_text(about, name, 0).unwrap_or(plain_text(about, name));
-    Seen::new(name, Found::Text(measure_of(kind, text)))
-}
-
-/// The same of hexadecimal digits.
-pub(crate) fn hexadecimal(about: &Request<'_>, name: &'static str) -> Seen {
-    text(about, name, Kind::Hexadecimal)
-}
-
-/// The same of decimal digits.
-pub(crate) fn decimal(about: &Request<'_>, name: &'static str) -> Seen {
-    text(about, name, Kind::Decimal)
-}
-
-/// The text of an argument that may be a reference: of several with this name that at a place, from
-/// 0.
-pub(crate) fn secret_text<'a>(about: &Request<'a>, name: &str, from: usize) -> Option<&'a str> {
-    let secrets = secrets_of(about)?;
-    let secrets = secrets.texts();
-    let texts = secrets.as_slice();
-    for place in from..texts.len() {
-        if secret_at(about, place).name() == name {
-            return Some(texts[place]);
-        }
-    }
-    None
-}
-
-/// The text of another argument; empty where the request has none with this name.
-pub(crate) fn plain_text<'a>(about: &Request<'a>, name: &str) -> &'a str {
-    for (other, text) in plain_texts(about) {
-        if other == name {
-            return text;
-        }
-    }
-    ""
-}
-
-/// The arguments of a request that are no references, each with its name; at most three.
-fn plain_texts<'a>(about: &Request<'a>) -> [(&'static str, &'a str); 3] {
-    let none = ("", "");
-    match *about {
-        Request::Derive { ksn, .. }
-        | Request::Registers { ksn, .. }
-        | Request::Translate { ksn, .. } => [("KSN", ksn), none, none],
-        Request::Walk {
-            iksn,
-            count,
-            skip,
-            ..
-        } => [("IKSN", iksn), ("COUNT", count), ("K", skip.unwrap_or(""))],
-        Request::Initial { iksn, .. } => [("IKSN", iksn), none, none],
-        Request::Issue {
-            iksn,
-            count,
-            way,
-            ..
-        } => [
-            ("IKSN", iksn),
-            ("COUNT", count),
-            ("KCV", way.kcv.unwrap_or("")),
-        ],
-        Request::MakeRequest { ksn, amount, .. } => [("KSN", ksn), ("AMOUNT", amount), none],
-        Request::MakeReversal { ksn, reversed, .. } => [("KSN", ksn), ("NUMBER", reversed), none],
-        Request::CheckReply {
-            request,
-            answer,
-            ..
-        } => [("REQUEST", request), ("ANSWER", answer), none],
-        Request::Wrap { fields, pad, .. } => [("FIELDS", fields), ("PAD", pad), none],
-        Request::Unwrap { block, .. } => [("BLOCK", block), none, none],
-        Request::Mac { text, .. } => [("TEXT", text), none, none],
-        Request::Data { text, iv, .. } => [("TEXT", text), ("BLOCK", iv.unwrap_or("")), none],
-        Request::Find { sought, window, .. } => {
-            let (from, text) = sought_texts(sought);
-            [("KSN", from), ("TEXT", text), ("N", window.unwrap_or(""))]
-        }
-        Request::Show { kind, .. } => [("KIND", kind), none, none],
-        Request::NewLog { records, .. } | Request::NewJournal { records, .. } => {
-            [("RECORDS", records), none, none]
-        }
-        _ => [none; 3],
-    }
-}
-
-/// The number at which a search begins, and the text whose MAC is sought.
-fn sought_texts<'a>(sought: Sought<'a>) -> (&'a str, &'a str) {
-    match sought {
-        Sought::Frame { from } => (from.unwrap_or(""), ""),
-        Sought::Mac { text, from, .. } => (from, text),
-        Sought::PinBlock { from, .. } | Sought::Ciphertext { from, .. } => (from, ""),
-    }
+pub(crate) fn measured(kind: Kind, text: &str) -> Found {
+    let wrong = text.as_bytes().iter().position(|byte| !kind.has(*byte));
+    Found::Text(text.len(), wrong)
 }

@@ -1,12 +1,13 @@
 use Rattle.std.proofs.Common.{◌≡◌, ◌∷◌, ◌∙◌, ◌+◌, ◌<◌, [], ℕ, List, ap, ap₂, arith, fold, get_or, length, map, sym, take}
-use Rattle.std.proofs.lemmas.List.{length-map, map-append, take_more}
+use Rattle.std.proofs.lemmas.List.{map-append, take_more}
 use Rattle.std.proofs.lemmas.Grind.{fold-append}
-use Rattle.std.proofs.Math.Seq.{take-length}
 use Rattle.clap.specs.Words.{App, Shape, with_subcommand}
-use Rattle.duk_arguments.specs.CommandLine.{command_line, program_shape}
-use Rattle.duk_arguments.specs.inner.CommandLine.{shape_named}
+use Rattle.duk_arguments.specs.CommandLine.{all_commands, command_line, program_shape, row_of, shape_of_row}
 use Rattle.duk_arguments.specs.declared.commands.name.CommandName.{CommandName}
 use Rattle.duk_arguments.proofs.commands.program.Goals as goal
+
+abbrev shape_named : CommandName → Shape
+shape_named command = shape_of_row (row_of command)
 
 -- the program, given these commands
 abbrev given : List Shape → App
@@ -20,21 +21,19 @@ one_more commands i d within =
     ∙ ap given (map-append shape_named (take i commands) (get_or commands i d ∷ []))
     ∙ fold-append with_subcommand _ (map shape_named (take i commands)) _
 
-are_all : (commands : List CommandName) (i : ℕ) → map shape_named commands ≡ command_line.subs → i ≡ 22
+are_all : (commands : List CommandName) (i : ℕ) → commands ≡ all_commands → i ≡ 22
     → given (map shape_named (take i commands)) ≡ command_line
-are_all commands i shapes all =
-    let count : length commands ≡ 22 = sym (length-map _ _) ∙ ap length shapes in
-    ap (λ (n : ℕ). given (map shape_named (take n commands))) (all ∙ sym count)
-    ∙ ap (λ (xs : List CommandName). given (map shape_named xs)) (take-length commands)
-    ∙ ap given shapes
+are_all commands i are all =
+    ap₂ (λ (n : ℕ) (xs : List CommandName). given (map shape_named (take n xs))) all are
 
 pub loop-command-preserved : goal.loop-command-preserved
 loop-command-preserved c =
-    let count : length c.commands.result ≡ 22 = sym (length-map _ _) ∙ ap length c.commands.ensures in
+    let count : length c.commands.result ≡ 22 = ap length c.commands.ensures in
     let more = one_more c.commands.result c.loop-command.command-index _ (omega (arith, count, c.loop-command-test.true)) in
     let made = c.in_ok-command_of.ensures in
     c.in_ok-program.ensures.shape made.1
-    ∙ ap₂ (λ (app : App) (shape : Shape). with_subcommand app shape) c.loop-command.invariant (made.0 ∙ c.usage_of.ensures)
+    ∙ ap₂ (λ (app : App) (shape : Shape). with_subcommand app shape) c.loop-command.invariant
+    (made.0 ∙ ap shape_of_row c.usage_of.ensures)
     ∙ sym more
 
 pub returns : goal.returns

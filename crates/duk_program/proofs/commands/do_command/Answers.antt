@@ -7,7 +7,7 @@ use Rattle.duk_program.proofs.commands.do_command.Goals as goal
 
 pub returns-in-Err-clause-not_done : goal.returns-in-Err-clause-not_done
 returns-in-Err-clause-not_done g c =
-    let command = command_for c.args.request in
+    let command = command_for c.args.request.now in
     let before = g.W.Sink.known c.args.output.now in
     record {
       cause = c.in-Err.why;

@@ -1,6 +1,6 @@
 use Rattle.std.proofs.Common.{Err}
 use Rattle.duk_commands.specs.Answer.{streams}
-use Rattle.duk_issue.specs.declared.fault.IssueFault.TheVariants.{WriteFailed}
+use Rattle.duk_commands.specs.declared.issue.fault.IssueFault.TheVariants.{WriteFailed}
 use Rattle.duk_program.specs.IssueFiles.{HasMadeAll, HasStopped, issuing}
 use Rattle.duk_program.specs.inner.IssueFiles.{task_of}
 use Rattle.duk_program.proofs.Ends.{failed}

@@ -2,14 +2,25 @@ use Rattle.std.proofs.Common.{refl}
 use Rattle.duk_commands.specs.Fault.{report_line}
 use Rattle.duk_program.specs.declared.items.ItemFault.TheVariants as fault
 use Rattle.duk_show.specs.Fault.{show_line}
+use Rattle.duk_commands.specs.KeyArgument.{key_argument}
+use Rattle.duk_commands.specs.Keys.{derived_of}
 use Rattle.duk_program.proofs.AsItems.{lines, refused}
+use Rattle.duk_program.proofs.CommandLines.{lines as keyed_lines, refused as keyed_refused}
 use Rattle.duk_program.proofs.items.LineCommand.lines.Goals as goal
 
 pub returns-in-Derive-clause-lines : goal.returns-in-Derive-clause-lines
-returns-in-Derive-clause-lines c explained = rw c.in-Derive.is (lines fault.Command _ c.lines.result c.of_command.result c.of_command.ensures c.lines.ensures.lines)
+returns-in-Derive-clause-lines c explained =
+    let items = c.in-Derive.items in
+    rw c.in-Derive.is (lines fault.Command _ c.lines.result c.of_command.result c.of_command.ensures
+    (keyed_lines _ _ (λ key. derived_of key c.args.item.now items.trace items.all) (key_argument items.bdk items.initial)
+    (record { written = items.bdk; written_is = refl; key_is = refl }) (λ it. it.items) c.lines.result c.lines.ensures.lines))
 
 pub returns-in-Derive-clause-refused : goal.returns-in-Derive-clause-refused
-returns-in-Derive-clause-refused c explained = rw c.in-Derive.is (refused fault.Command _ report_line c.lines.result c.of_command.result (λ why. refl) c.of_command.ensures c.lines.ensures.refused)
+returns-in-Derive-clause-refused c explained =
+    let items = c.in-Derive.items in
+    rw c.in-Derive.is (refused fault.Command _ report_line c.lines.result c.of_command.result (λ why. refl) c.of_command.ensures
+    (keyed_refused _ _ (λ key. derived_of key c.args.item.now items.trace items.all) (key_argument items.bdk items.initial)
+    (record { written = items.bdk; written_is = refl; key_is = refl }) c.lines.result c.lines.ensures.refused))
 
 pub returns-in-Kcv-clause-lines : goal.returns-in-Kcv-clause-lines
 returns-in-Kcv-clause-lines c explained = rw c.in-Kcv.is (lines fault.Command _ c.values_lines.result c.of_command-in-Kcv.result c.of_command-in-Kcv.ensures c.values_lines.ensures.lines)
@@ -46,3 +57,9 @@ returns-in-Images-clause-lines c explained = rw c.in-Images.is (lines fault.Show
 
 pub returns-in-Images-clause-refused : goal.returns-in-Images-clause-refused
 returns-in-Images-clause-refused c explained = rw c.in-Images.is (refused fault.Show _ show_line c.image_lines.result c.of_show-in-Images.result (λ why. refl) c.of_show-in-Images.ensures c.image_lines.ensures.refused)
+
+pub returns-in-Unwrap-clause-lines : goal.returns-in-Unwrap-clause-lines
+returns-in-Unwrap-clause-lines c explained = rw c.in-Unwrap.is (lines fault.Command _ c.unwrap_lines.result c.of_command-in-Unwrap.result c.of_command-in-Unwrap.ensures c.unwrap_lines.ensures.lines)
+
+pub returns-in-Unwrap-clause-refused : goal.returns-in-Unwrap-clause-refused
+returns-in-Unwrap-clause-refused c explained = rw c.in-Unwrap.is (refused fault.Command _ report_line c.unwrap_lines.result c.of_command-in-Unwrap.result (λ why. refl) c.of_command-in-Unwrap.ensures c.unwrap_lines.ensures.refused)

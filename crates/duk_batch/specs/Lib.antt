@@ -1,3 +1,0 @@
-pub mod Item
-pub mod Batch
-pub mod inner

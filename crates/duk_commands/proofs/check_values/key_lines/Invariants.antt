@@ -1,0 +1,14 @@
+use Rattle.std.proofs.Common.{◌≡◌, ◌≤◌, ◌*◌, List, map, take}
+use Rattle.arrayvec.specs.ArrayVec.{array_vec_len}
+use Rattle.duk_tdes.specs.declared.key.KeyBytes.{KeyBytes}
+use Rattle.duk_commands.specs.CheckValues.{Write, key_values, lines_of}
+use Rattle.duk_commands.proofs.check_values.key_lines.Given as goal
+
+-- the texts so far write keys, and their lines stand there
+abbrev pub invariant-loop-text : goal.invariant-loop-text
+invariant-loop-text l = record {
+  keys : List KeyBytes;
+  written : Write (take l.text-index (map (λ text. text.now) l.texts)) keys;
+  lines : l.lines.items ≡ lines_of key_values keys;
+  length : array_vec_len l.lines ≤ 39 * l.text-index;
+}

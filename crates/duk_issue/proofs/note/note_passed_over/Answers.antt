@@ -1,8 +1,0 @@
-use Rattle.std.proofs.Common.{◌∙◌, subst}
-use Rattle.duk_io.specs.Sink.{IsTried}
-use Rattle.duk_issue.proofs.note.note_passed_over.Goals as goal
-
-pub returns : goal.returns
-returns g c =
-    subst (λ text. IsTried (g.F.Sink.known c.args.fault.now) (g.F.Sink.known c.tell.new.fault) text)
-    (c.as_slice.ensures.value ∙ c.line_of.ensures) c.tell.ensures

@@ -1,0 +1,140 @@
+//! The options that the program takes before its commands know of them, `--json` and `--progress`,
+//! and what is asked of a command with them.
+
+ghost use Rattle.std.specs.Prelude.{◌≡◌, Bool, is_some};
+ghost use Rattle.duk_program.specs.Items.{items_of, shown_items};
+
+use crate::as_json::{Shape, shape_of};
+use crate::progress::Counting;
+use duk_arguments::{CommandName, NoRequest, Request, read_request};
+use duk_program::take_option;
+use std::alloc::{AllocError, Global};
+
+/// Which of the options are given.
+#[derive(Clone, Copy)]
+pub(crate) struct Views {
+    /// Whether what a command writes is written as objects.
+    pub(crate) json: bool,
+    /// Whether it is told how much is done.
+    pub(crate) progress: bool,
+}
+
+/// What is asked of a command, as far as the arguments tell it: one that is a reference is not read.
+#[derive(Clone, Copy)]
+pub(crate) struct Asked {
+    /// How its lines make answers.
+    pub(crate) shape: Shape,
+    /// Whether faults are explained.
+    pub(crate) explain: bool,
+    /// What is counted of it.
+    pub(crate) counting: Counting,
+}
+
+/// Takes the options out of the arguments. A service and a script have no answers: there they stay, and
+/// are refused as options that are not known.
+pub(crate) fn take_views(arguments: &mut Vec<String>) -> Views {
+    let has_answers = match command_word(arguments.as_slice()) {
+        Some("run" | "serve") => false,
+        _ => true,
+    };
+    Views {
+        json: has_answers && take_option(arguments, "--json"),
+        progress: has_answers && take_option(arguments, "--progress"),
+    }
+}
+
+/// What is asked of a command. Where no option is given, nobody wants to know.
+pub(crate) fn asked_with(
+    alloc: Global,
+    views: Views,
+    arguments: &Vec<String>,
+) -> Result<Asked, AllocError> {
+    let nothing = Asked {
+        shape: Shape::Text,
+        explain: false,
+        counting: Counting::Nothing,
+    };
+    if !views.json && !views.progress {
+        return Ok(nothing);
+    }
+    let mut own = arguments.clone()?;
+    let explain = take_option(&mut own, "--explain");
+    match read_request(alloc, own.as_slice()) {
+        Ok(request) => Ok(asked_by(&request, views, explain)),
+        Err(NoRequest::NoMemory) => Err(AllocError),
+        Err(_) => Ok(nothing),
+    }
+}
+
+/// What a request asks.
+fn asked_by(request: &Request<'_>, views: Views, explain: bool) -> Asked {
+    Asked {
+        shape: if views.json {
+            shape_of(request)
+        } else {
+            Shape::Text
+        },
+        explain,
+        counting: if views.progress {
+            counting_of(request)
+        } else {
+            Counting::Nothing
+        },
+    }
+}
+
+/// What is counted of the command of a request.
+fn counting_of(request: &Request<'_>) -> Counting {
+    match request.command() {
+        CommandName::Walk | CommandName::Issue => Counting::lines_of(request.text("COUNT")),
+        CommandName::NewLog | CommandName::NewJournal | CommandName::CopyJournal => {
+            Counting::Records
+        }
+        CommandName::Show if is_of_records(request.text("KIND")) => Counting::LinesWritten(None),
+        _ if is_batch(request) => Counting::LinesRead,
+        _ => Counting::Nothing,
+    }
+}
+
+/// Whether `show` prints the records of a file of this kind.
+fn is_of_records(kind: &str) -> bool {
+    kind == "log" || kind == "journal"
+}
+
+/// Whether an argument of a request is each line of the input.
+fn is_batch(request: &Request<'_>) -> bool
+    ensures { result ≡ is_some (items_of request.now) }
+{
+    match request.command() {
+        CommandName::Derive => request.text("KSN") == "-",
+        CommandName::Kcv => {
+            request.count("KEY") == 1
+                && request.text("KEY") == "-"
+                && !(request.flag("components") || request.flag("show"))
+        }
+        CommandName::Pin => request.text("PIN") == "-" || request.text("PAN") == "-",
+        CommandName::Unwrap => request.text("BLOCK") == "-",
+        CommandName::Show => {
+            request.text("WHAT") == "-" && !request.flag("key") && has_items(request.text("KIND"))
+        }
+        _ => false,
+    }
+}
+
+/// Whether `show` may have items of a kind.
+fn has_items(kind: &str) -> bool
+    ensures { (show : Bool) → result ≡ is_some (shown_items kind.now show) }
+{
+    kind == "frame" || kind == "block" || kind == "image"
+}
+
+/// The word of the command: the first that is no option.
+fn command_word(arguments: &[String]) -> Option<&str> {
+    let (_, words) = arguments.split_first()?;
+    for word in words {
+        if !word.starts_with('-') {
+            return Some(word.as_str());
+        }
+    }
+    None
+}

@@ -1,0 +1,71 @@
+"""The arguments of the command."""
+from __future__ import annotations
+
+import argparse
+import os
+from pathlib import Path
+from typing import Optional, Sequence
+
+from .connections import Limits
+from .settings import Address, Settings, Tls
+
+HERE = "127.0.0.1:7000"
+ABOUT = """Answers payments and reversals over any number of connections, by one process of `dukpt
+serve CONFIG --journal FILE`, which it starts, also again where it ended and nothing was lost."""
+
+
+def read(words: Optional[Sequence[str]] = None) -> Settings:
+    told = parser().parse_args(words)
+    limits = Limits(told.connections, told.unread, told.idle, told.frame, told.closing)
+    return Settings(
+        os.environ.get("DUKPT", "dukpt"), told.config, Path(os.path.realpath(told.journal)),
+        told.listen or [address(HERE)], Tls(*told.tls) if told.tls else None, told.plain,
+        told.metrics, limits)
+
+
+def parser() -> argparse.ArgumentParser:
+    made = argparse.ArgumentParser(prog="dukpt-host", description=ABOUT)
+    add, usual = made.add_argument, Limits()
+    add("config", metavar="CONFIG", help="the configuration, with the keys")
+    add("--journal", metavar="FILE", required=True, help="the journal, which new-journal makes")
+    add("--listen", metavar="ADDRESS", type=address, action="append", default=[],
+        help=f"where clients come: HOST:PORT, also more than once; else {HERE}. The sockets that"
+        " systemd hands over stand in their place")
+    add("--tls", nargs=3, metavar=("CERT", "KEY", "CA"),
+        help="TLS, where each client has a certificate that one of CA signed")
+    add("--plain", action="store_true",
+        help="lets other machines come without TLS: what stands in front sees to who they are")
+    add("--metrics", metavar="ADDRESS", type=address, help="where /metrics and /health are")
+    for name, kind, text in (
+            ("connections", count, "how many connections at once"),
+            ("unread", count, "bytes of answers that a client may leave unread"),
+            ("idle", seconds, "seconds that a client may be silent"),
+            ("frame", seconds, "seconds in which a frame that was begun has to end"),
+            ("closing", seconds, "seconds that a client has for its last answers")):
+        value = getattr(usual, name)
+        add(f"--{name}", metavar="N", type=kind, default=value, help=f"{text}; else {value}")
+    return made
+
+
+def address(text: str) -> Address:
+    host, colon, port = text.rpartition(":")
+    host = host[1:-1] if host.startswith("[") and host.endswith("]") else host
+    if not (colon and host and port.isascii() and port.isdigit() and int(port) < 1 << 16):
+        raise argparse.ArgumentTypeError("it is to be as in: 127.0.0.1:7000")
+    return host, int(port)
+
+
+def count(text: str) -> int:
+    if not (text.isascii() and text.isdigit() and int(text) > 0):
+        raise argparse.ArgumentTypeError("it is to be a whole number above 0")
+    return int(text)
+
+
+def seconds(text: str) -> float:
+    try:
+        value = float(text)
+    except ValueError:
+        value = 0
+    if not 0 < value < 1e9:
+        raise argparse.ArgumentTypeError("it is to be a number of seconds above 0")
+    return value

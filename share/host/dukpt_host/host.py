@@ -1,0 +1,106 @@
+"""All parts together: how the host starts, and how it stops."""
+from __future__ import annotations
+
+import asyncio
+import signal
+import socket
+from time import monotonic
+from typing import Optional
+
+from .connections import Connections
+from .exchange import Exchange
+from .journal import State, room_of
+from .listening import Door, context_of, listeners, name_of, notify, watchdog
+from .log import Log
+from .metrics import Metrics
+from .service import Service
+from .settings import Settings
+from .waiting import Waiting
+from .web import LONGEST, Web
+
+# How often limits of time are looked at, in seconds.
+TICK = 0.25
+
+
+class Host:
+    """The parts of a host. Its sockets are open once it is made. It lets in whom it can answer."""
+
+    def __init__(self, settings: Settings, log: Log) -> None:
+        self.settings, self.log = settings, log
+        self.state = State(settings.journal)
+        context = context_of(settings.tls)
+        self.sockets = listeners(settings)
+        self.metrics = Metrics(lambda: room_of(settings.journal))
+        waiting = Waiting()
+        self.connections = Connections(settings.limits, waiting, self.metrics, log)
+        exchange = Exchange(waiting, self.connections, self.metrics, log)
+        self.service = Service(settings, self.state, exchange, self.metrics, log)
+        self.door = Door(lambda: not self.service.has_failed, context, self.connections,
+                         self.metrics, log)
+
+    async def run(self) -> int:
+        """Serves until a signal asks for the end. The status is 1 where the journal has failed."""
+        for way in (signal.SIGTERM, signal.SIGINT, signal.SIGHUP):
+            asyncio.get_running_loop().add_signal_handler(way, self.service.stop)
+        web = await self.open_web()
+        serving = asyncio.create_task(self.service.run())
+        beats = asyncio.create_task(self.beat())
+        doors = [asyncio.create_task(self.let_in(it)) for it in self.sockets]
+        stopping = asyncio.create_task(self.service.stopping.wait())
+        await asyncio.wait([serving, stopping], return_when=asyncio.FIRST_COMPLETED)
+        notify("STOPPING=1")
+        for task in doors:
+            task.cancel()
+        self.door.shut()
+        for it in self.sockets:
+            it.close()
+        self.connections.end_all("stop")
+        try:
+            await serving
+        finally:
+            await self.see_out()
+            beats.cancel()
+            if web:
+                web.close()
+        return 1 if self.service.has_failed else 0
+
+    async def let_in(self, listener: socket.socket) -> None:
+        await self.service.settled.wait()
+        self.log.note(f"listening on {name_of(listener.getsockname())}")
+        await self.door.watch(listener)
+
+    async def open_web(self) -> Optional[asyncio.Server]:
+        if self.settings.metrics is None:
+            return None
+        host, port = self.settings.metrics
+        talk = Web(self.metrics, self.service).talk
+        server = await asyncio.start_server(talk, host, port, limit=LONGEST)
+        for it in server.sockets:
+            self.log.note(f"metrics and health on {name_of(it.getsockname())}")
+        return server
+
+    async def beat(self) -> None:
+        """Looks at limits of time, and tells systemd how it is."""
+        await self.service.settled.wait()
+        notify("READY=1")
+        every, due, told = watchdog(), 0.0, ""
+        while True:
+            self.connections.look()
+            self.log.look()
+            status = self.service.wrong or "serving"
+            if status != told:
+                told = status
+                notify(f"STATUS={status}")
+            if every and monotonic() >= due:
+                due = monotonic() + every
+                notify("WATCHDOG=1")
+            await asyncio.sleep(TICK)
+
+    async def see_out(self) -> None:
+        """Waits until the clients have read their last answers, but not for those that do not."""
+        until = monotonic() + self.settings.limits.closing
+        while self.connections.all and monotonic() < until:
+            await asyncio.sleep(0.01)
+        for it in list(self.connections.all):
+            it.transport.abort()
+        await asyncio.sleep(0)

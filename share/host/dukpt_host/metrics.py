@@ -1,0 +1,98 @@
+"""What is counted, and how Prometheus is told."""
+from __future__ import annotations
+
+from bisect import bisect_left
+from collections import Counter
+from typing import Callable, Iterator, Mapping, Sequence
+
+from prometheus_client import CollectorRegistry, generate_latest
+from prometheus_client.core import CounterMetricFamily, GaugeMetricFamily, HistogramMetricFamily
+from prometheus_client.metrics_core import Metric
+from prometheus_client.registry import Collector
+
+from .frames import words
+from .journal import Room
+
+SECONDS = (.0005, .001, .002, .005, .01, .02, .05, .1, .2, .5, 1, 2, 5, 10)
+FRAMES = (1, 2, 5, 10, 20, 50, 100, 200, 500, 1024)
+
+
+class Histogram:
+    """How many values are up to each bound."""
+
+    def __init__(self, bounds: Sequence[float]) -> None:
+        self.bounds = bounds
+        self.counts = [0] * (len(bounds) + 1)
+        self.sum = 0.0
+
+    def add(self, value: float, times: int = 1) -> None:
+        self.counts[bisect_left(self.bounds, value)] += times
+        self.sum += value * times
+
+    def family(self, name: str, text: str) -> Metric:
+        total, buckets = 0, []
+        for bound, count in zip([*map(str, self.bounds), "+Inf"], self.counts):
+            total += count
+            buckets.append((bound, total))
+        found = HistogramMetricFamily(name, text)
+        found.add_metric([], buckets, self.sum)
+        return found
+
+
+class Metrics(Collector):
+    """All counts. `frames` are answered, unanswered, or wait still."""
+
+    def __init__(self, room: Callable[[], Room]) -> None:
+        self.room = room
+        self.answers: Counter[bytes] = Counter()
+        self.frames = self.unanswered = self.dropped = self.opened = 0
+        self.connections: Callable[[], int] = lambda: 0
+        self.waiting: Callable[[], int] = lambda: 0
+        self.is_serving = False
+        self.closed: Counter[str] = Counter()
+        self.refused: Counter[str] = Counter()
+        self.restarts: Counter[str] = Counter()
+        self.seconds, self.groups = Histogram(SECONDS), Histogram(FRAMES)
+        self.registry = CollectorRegistry()
+        self.registry.register(self)
+
+    def text(self) -> bytes:
+        return bytes(generate_latest(self.registry))
+
+    def collect(self) -> Iterator[Metric]:
+        answers = CounterMetricFamily(
+            "dukpt_answers", "Answers by kind and code, reason or state.", labels=["kind", "says"])
+        for said, count in self.answers.items():
+            answers.add_metric(words(said), count)
+        yield answers
+        yield self.seconds.family("dukpt_answer_seconds", "From a frame's arrival to its answer.")
+        yield self.groups.family("dukpt_group_frames", "Frames given to the service at once.")
+        for name, text, value in self.totals():
+            yield CounterMetricFamily(name, text, value=value)
+        yield by_word("dukpt_connections_closed", "Connections that ended, by why.", self.closed)
+        yield by_word("dukpt_connections_refused", "Clients not let in, by why.", self.refused)
+        yield by_word("dukpt_restarts", "Starts of the service after its end.", self.restarts)
+        for name, text, level in self.levels():
+            yield GaugeMetricFamily(name, text, value=level)
+
+    def totals(self) -> Iterator[tuple[str, str, int]]:
+        yield "dukpt_frames", "Frames that came.", self.frames
+        yield "dukpt_frames_unanswered", "Frames lost in a stop of the service.", self.unanswered
+        yield "dukpt_answers_dropped", "Answers whose connection had ended.", self.dropped
+        yield "dukpt_connections_opened", "Connections that came.", self.opened
+
+    def levels(self) -> Iterator[tuple[str, str, float]]:
+        yield "dukpt_serving", "1 while the service answers.", int(self.is_serving)
+        yield "dukpt_connections", "Connections now.", self.connections()
+        yield "dukpt_frames_waiting", "Frames without an answer now.", self.waiting()
+        room = self.room()
+        yield "dukpt_journal_records", "Records of the journal.", room.records
+        yield "dukpt_journal_room", "Records left.", room.left
+        yield "dukpt_journal_room_payments", "Payments that can still be kept.", room.payments
+
+
+def by_word(name: str, text: str, counts: Mapping[str, int]) -> Metric:
+    found = CounterMetricFamily(name, text, labels=["why"])
+    for word, count in counts.items():
+        found.add_metric([word], count)
+    return found
