@@ -12,3 +12,4 @@ pub mod BooksHold
 pub mod SentFramesHold
 pub mod EachMoveHolds
 pub mod Agreement
+pub mod ToldIsSold

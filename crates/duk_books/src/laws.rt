@@ -11,6 +11,7 @@ ghost use Rattle.duk_term.specs.Loading.{WrapsInitialKey};
 ghost use Rattle.duk_books.specs.AcceptedOnce.{AcceptedOnce, HaveOneReply, KeepsAccepted};
 ghost use Rattle.duk_books.specs.Agree.{BooksAgree};
 ghost use Rattle.duk_books.specs.Books.{BooksOf, meanings_of};
+ghost use Rattle.duk_books.specs.Came.{KeepsWhatWasSent};
 ghost use Rattle.duk_books.specs.CallLeads.{CallLeads};
 ghost use Rattle.duk_books.specs.Calm.{FailsOnceArmed, HasSoundStores, IsCalmAt, IsRestartEvent, ReportsBroughtUp, ReportsNoDamage, StaysCalm};
 ghost use Rattle.duk_books.specs.Completed.{CompletedByHost, KnowFromHost};
@@ -24,6 +25,7 @@ ghost use Rattle.duk_books.specs.OwnKeyOfRequests.{IsOwnKeySent};
 ghost use Rattle.duk_books.specs.Reached.{Reached};
 ghost use Rattle.duk_books.specs.Run.{Run};
 ghost use Rattle.duk_books.specs.Sent.{SentByOwners};
+ghost use Rattle.duk_books.specs.Told.{HasWhatWasTold};
 ghost use Rattle.duk_books.specs.declared.event.End.{End};
 ghost use Rattle.duk_books.specs.declared.event.Event.{Event};
 ghost use Rattle.duk_books.specs.declared.outcome.Outcome.{Outcome};
@@ -36,9 +38,19 @@ use duk_store::{Cell, Disk, SlotCell};
 /// was told as approved stands at the host, with its amount. Of a till that runs, no other payment
 /// stands, but perhaps the one that is open, of which there is one at most; and of a till at rest
 /// those that stand are exactly those that it was told as approved.
+///
+/// The host keeps nothing that no till sent: each payment was asked for by a request of that number
+/// and amount, and each reversal by a reversal of that number, which names the one that is reversed.
+/// And a payment comes to the merchants' book exactly where an outcome tells its till that it is
+/// approved.
 pub fn agreement<C: Cell, B: Cell, J: Journal, I: Issuer>()
-    ensures { let m = meanings_of C.meaning B.meaning J.meaning I.decides in
+    ensures agree { let m = meanings_of C.meaning B.meaning J.meaning I.decides in
         (books : BooksOf C B J I) → Reached m books → BooksAgree m books }
+    ensures sent { let m = meanings_of C.meaning B.meaning J.meaning I.decides in
+        (books : BooksOf C B J I) → Reached m books → KeepsWhatWasSent m books }
+    ensures told { let m = meanings_of C.meaning B.meaning J.meaning I.decides in
+        (old new : BooksOf C B J I) (outcomes : List Outcome) → Reached m old
+        → CallLeads m old outcomes new → HasWhatWasTold old.sales outcomes new.sales }
 {
     duk_till::laws::one_reading();
     duk_term::laws::requests::<C>();

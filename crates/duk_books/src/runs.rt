@@ -4,6 +4,7 @@ ghost use Rattle.std.specs.Prelude.{◌≡◌, ℕ, All, IfOk, IfErr, OnErr};
 ghost use Rattle.duk_books.specs.AcceptedOnce.{AcceptedOnce, HaveOneReply, KeepsAccepted};
 ghost use Rattle.duk_books.specs.Agree.{BooksAgree};
 ghost use Rattle.duk_books.specs.Books.{meanings_of};
+ghost use Rattle.duk_books.specs.Came.{KeepsWhatWasSent};
 ghost use Rattle.duk_books.specs.Calm.{FailsOnceArmed, HasSoundStores, IsCalmAt, ReportsNoDamage, StaysCalm};
 ghost use Rattle.duk_books.specs.Completed.{CompletedByHost, KnowFromHost};
 ghost use Rattle.duk_books.specs.declared.event.End.{End};
@@ -17,6 +18,7 @@ ghost use Rattle.duk_books.specs.OwnKeyOfRequests.{IsOwnKeySent};
 ghost use Rattle.duk_books.specs.Run.{IsRefusedMemory, IsRun, RunRefused};
 ghost use Rattle.duk_books.specs.Sent.{SentByOwners};
 ghost use Rattle.duk_books.specs.Step.{Step};
+ghost use Rattle.duk_books.specs.Told.{HasWhatWasTold};
 ghost use Rattle.duk_books.specs.inner.Run.{IsStepInto};
 
 use crate::books::Books;
@@ -72,6 +74,14 @@ pub fn run<const N: usize, C: Cell, B: Cell, J: Journal, I: Issuer>(
         books.old events.now out.old.items out.new.items books.new) }
     ensures agree { BooksAgree
         (meanings_of C.meaning B.meaning J.meaning I.decides) books.new }
+    // The host keeps nothing that no till sent.
+    ensures sent { KeepsWhatWasSent
+        (meanings_of C.meaning B.meaning J.meaning I.decides) books.new }
+    // A payment comes to the merchants' book exactly where an outcome tells its till that it is
+    // approved.
+    ensures told { GainedMeet
+        (λ outcomes. HasWhatWasTold books.old.sales outcomes books.new.sales)
+        out.old.items out.new.items }
     // What stays: who owns an initial key serial number, alone, and the keys of the security module.
     ensures owners_stay { (iksn t : ℕ)
         → Owns books.old.owners iksn t → IsOwner books.new.owners iksn t }

@@ -25,7 +25,8 @@ use Rattle.duk_books.proofs.accepted.RepliedBefore.{AnswerLaws}
 use Rattle.duk_books.proofs.agreement.Agreement.{called_back, first_holds, new_at}
 use Rattle.duk_books.proofs.agreement.BooksHold.{BookLaws, Holds, after_at, before_at, lists_of, one_till, set_of}
 use Rattle.duk_books.proofs.agreement.EachMoveHolds.{holds_after}
-use Rattle.duk_books.proofs.agreement.Facts.{IsAsked, IsCalledBack, IsUndoneBy, asked_before, called_back_before, none_in}
+use Rattle.duk_books.specs.Came.{IsAsked}
+use Rattle.duk_books.proofs.agreement.Facts.{IsCalledBack, IsUndoneBy, asked_before, called_back_before, none_in}
 use Rattle.duk_books.proofs.agreement.HostHolds.{answered_entries}
 use Rattle.duk_books.proofs.agreement.OwnersStay.{change_owner}
 use Rattle.duk_books.proofs.agreement.QuietCalls.{is_fresh}

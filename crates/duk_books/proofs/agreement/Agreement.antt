@@ -26,8 +26,9 @@ use Rattle.duk_books.specs.Reached.{Reached}
 use Rattle.duk_books.specs.Sales.{sale_of}
 use Rattle.duk_books.proofs.agreement.BooksHold.{BookLaws, BooksHold, Holds, lists_of}
 use Rattle.duk_books.proofs.agreement.EachMoveHolds.{holds_after}
-use Rattle.duk_books.proofs.agreement.Facts.{IsAsked, IsCalledBack, IsRepliedTo, IsSold, none_in, the_only}
-use Rattle.duk_books.proofs.agreement.HostHolds.{CameFrom, EntriesHold, none_new, reversed_of}
+use Rattle.duk_books.specs.Came.{AreAskedFor, IsAsked, IsReversedBy, KeepsWhatWasSent}
+use Rattle.duk_books.proofs.agreement.Facts.{IsCalledBack, IsRepliedTo, IsSold, none_in, the_only}
+use Rattle.duk_books.proofs.agreement.HostHolds.{EntriesHold, none_new, reversed_of}
 use Rattle.duk_books.proofs.agreement.Registers.{RegistersHold}
 use Rattle.duk_books.proofs.agreement.Terminals.{KeptHas, StateHas}
 use Rattle.duk_books.proofs.agreement.Tills.{IsInDoubt as IsDoubted, IsKeptOf, OneReading, TillHolds, one_last, stopped_is_not_running}
@@ -78,13 +79,17 @@ same_decided amount sum one other same = cc
 
 -- ---- what is reversed was called back
 
-decided_back : (requests : List Frame) (entries : Entries) (number ksn : Serial) (decided : Decided) (mac : List ℕ) → CameFrom requests entries → Contains entries (record { number = number; decided = decided; mac = mac })
+back_of : (requests : List Frame) (ksn reversed : Serial) → IsReversedBy requests ksn reversed → IsCalledBack requests reversed
+back_of requests ksn reversed is = record { frame = is.frame; reversal = is.reversal; sent = is.sent; is_reversal = is.is_reversal; reversed_is = is.reversed_is }
+
+decided_back : (requests : List Frame) (entries : Entries) (number ksn : Serial) (decided : Decided) (mac : List ℕ) → AreAskedFor requests entries → Contains entries (record { number = number; decided = decided; mac = mac })
     → Contains (reversed_in number decided) ksn → IsCalledBack requests ksn
 decided_back requests entries number ksn (PaymentDecided amount code) mac came kept has = absurd (none_in ksn has)
 decided_back requests entries number ksn (ReversalDecided counter state) mac came kept has =
-    subst (λ (it : Serial). IsCalledBack requests it) (sym (the_only (reversed_by number counter) ksn has)) (came (record { number = number; decided = ReversalDecided counter state; mac = mac }) kept)
+    subst (λ (it : Serial). IsCalledBack requests it) (sym (the_only (reversed_by number counter) ksn has))
+    (back_of requests number (reversed_by number counter) (came (record { number = number; decided = ReversalDecided counter state; mac = mac }) kept))
 
-pub called_back : (requests : List Frame) (entries : Entries) (ksn : Serial) → CameFrom requests entries → Contains (reversed_numbers entries) ksn → IsCalledBack requests ksn
+pub called_back : (requests : List Frame) (entries : Entries) (ksn : Serial) → AreAskedFor requests entries → Contains (reversed_numbers entries) ksn → IsCalledBack requests ksn
 called_back requests entries ksn came has =
     let it = reversed_of entries ksn has in
     decided_back requests entries it.0.number ksn it.0.decided it.0.mac came it.1 it.2
@@ -245,7 +250,17 @@ module _ {C B J I : Type 0} (m : Meanings C B J I) (books : BooksOf C B J I) (is
   )
 
 -- what is reached holds
+pub reached_holds : {C B J I : Type 0} (m : Meanings C B J I) (laws : BookLaws m) (books : BooksOf C B J I) → Reached m books → Holds m books
+reached_holds {C} {B} {J} {I} m laws books reached =
+    reached_all m (λ (it : BooksOf C B J I). Holds m it) (first_holds m)
+    (λ old new was moves. holds_after m laws old was.0 was.1 new (move_change m old new moves)) books reached
+
+-- so the books agree
 pub reached_agrees : {C B J I : Type 0} (m : Meanings C B J I) (laws : BookLaws m) (books : BooksOf C B J I) → Reached m books → BooksAgree m books
-reached_agrees {C} {B} {J} {I} m laws books reached =
-    books_agree m books laws.calls.reading (reached_all m (λ (it : BooksOf C B J I). Holds m it) (first_holds m)
-    (λ old new was moves. holds_after m laws old was.0 was.1 new (move_change m old new moves)) books reached)
+reached_agrees m laws books reached = books_agree m books laws.calls.reading (reached_holds m laws books reached)
+
+-- and the host keeps what was sent
+pub reached_keeps : {C B J I : Type 0} (m : Meanings C B J I) (laws : BookLaws m) (books : BooksOf C B J I) → Reached m books → KeepsWhatWasSent m books
+reached_keeps {C} {B} {J} {I} m laws books reached =
+    let held = reached_holds m laws books reached in
+    λ entries are. (entries_hold m books held.0 entries held.1 are).came

@@ -17,7 +17,8 @@ use Rattle.duk_books.specs.Agree.{AreOfDifferentNumbers}
 use Rattle.duk_books.specs.Books.{BooksOf, ChangesOnly, IsAt, Meanings}
 use Rattle.duk_books.specs.Owner.{IsOwner}
 use Rattle.duk_books.specs.declared.owner.Owner.{Owner}
-use Rattle.duk_books.proofs.agreement.Facts.{FrameLaws, GrowBeside, IsAsked, IsCalledBack, IsSold, Lists, the_only}
+use Rattle.duk_books.specs.Came.{IsAsked}
+use Rattle.duk_books.proofs.agreement.Facts.{FrameLaws, GrowBeside, IsCalledBack, IsSold, Lists, the_only}
 use Rattle.duk_books.proofs.agreement.HostHolds.{HostHolds, HostLaws}
 use Rattle.duk_books.proofs.agreement.OwnersStay.{HaveOneOwner}
 use Rattle.duk_books.proofs.agreement.QuietCalls.{CallLaws, ListsHold}

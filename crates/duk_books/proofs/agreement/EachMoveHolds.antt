@@ -27,7 +27,8 @@ use Rattle.duk_books.specs.declared.outcome.Outcome.TheVariants as came
 use Rattle.duk_books.specs.declared.owner.Owner.{Owner}
 use Rattle.duk_books.specs.declared.sales.Sale.{Sale}
 use Rattle.duk_books.proofs.agreement.BooksHold.{BookLaws, BooksHold, Holds, before_at, begun_owned_too, grow_same, lists_hold, lists_of, one_till, set_of, tills_after}
-use Rattle.duk_books.proofs.agreement.Facts.{GrowBeside, IsAsked, Lists, replied_before, the_only, undone_before}
+use Rattle.duk_books.specs.Came.{IsAsked}
+use Rattle.duk_books.proofs.agreement.Facts.{GrowBeside, Lists, replied_before, the_only, undone_before}
 use Rattle.duk_books.proofs.agreement.HostHolds.{HostHolds, answered_holds, refused_holds, touched_holds}
 use Rattle.duk_books.proofs.agreement.OwnersStay.{one_owner_after, owner_stays, owns_loaded}
 use Rattle.duk_books.proofs.agreement.QuietCalls.{begin_refused_so, book_armed, load_refused, lost, reverse_refused, terminal_armed, till_loaded, with_begun}

@@ -13,6 +13,7 @@ use Rattle.duk_reversal.specs.declared.reversal.Reversal as reversal_frame
 use Rattle.duk_till.specs.History.{payment_of}
 use Rattle.duk_tree.specs.Serial.{Serial}
 use Rattle.duk_books.specs.Books.{Frame}
+use Rattle.duk_books.specs.Came.{IsAsked, IsReversedBy}
 use Rattle.duk_books.specs.Owner.{IsOwner}
 use Rattle.duk_books.specs.Sales.{sale_of}
 use Rattle.duk_books.specs.declared.owner.Owner.{Owner}
@@ -31,15 +32,6 @@ pub the_one : {A : Type 0} (thing : A) → Contains (thing ∷ []) thing
 the_one thing = (0, omega arith, refl)
 
 -- ---- frames
-
--- a request for this payment was sent
-pub record IsAsked (requests : List Frame) (ksn : Serial) (amount : ℕ) : Type 0 where
-  pub frame : Frame
-  pub request : Request
-  pub sent : Contains requests frame
-  pub is_request : IsRequest frame.items request
-  pub ksn_is : request.ksn ≡ ksn
-  pub amount_is : request.amount ≡ amount
 
 -- a reversal of this number was sent
 pub record IsCalledBack (requests : List Frame) (ksn : Serial) : Type 0 where
@@ -82,6 +74,16 @@ asked_before requests added ksn amount is = record {
   is_request = is.is_request;
   ksn_is = is.ksn_is;
   amount_is = is.amount_is;
+}
+
+pub reversed_before : (requests added : List Frame) (ksn reversed : Serial) → IsReversedBy requests ksn reversed → IsReversedBy (requests ++ added) ksn reversed
+reversed_before requests added ksn reversed is = record {
+  frame = is.frame;
+  reversal = is.reversal;
+  sent = Contains-append_left requests added is.frame is.sent;
+  is_reversal = is.is_reversal;
+  ksn_is = is.ksn_is;
+  reversed_is = is.reversed_is;
 }
 
 pub called_back_before : (requests added : List Frame) (ksn : Serial) → IsCalledBack requests ksn → IsCalledBack (requests ++ added) ksn

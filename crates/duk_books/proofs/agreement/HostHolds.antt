@@ -28,7 +28,8 @@ use Rattle.duk_reversal.specs.declared.reversal.Reversal as reversal_frame
 use Rattle.duk_tree.specs.Serial.{IsSerial, Serial}
 use Rattle.duk_books.specs.AcceptedOnce.{HasPayment}
 use Rattle.duk_books.specs.Books.{Frame, Meanings}
-use Rattle.duk_books.proofs.agreement.Facts.{IsAsked, IsCalledBack, IsRepliedTo, IsUndoneBy, asked_before, called_back_before, none_in, the_one, the_only}
+use Rattle.duk_books.specs.Came.{AreAskedFor, IsAsked, IsAskedFor}
+use Rattle.duk_books.proofs.agreement.Facts.{IsCalledBack, IsRepliedTo, IsUndoneBy, asked_before, none_in, reversed_before, the_one, the_only}
 use Rattle.duk_books.proofs.moves.HostFinds.{HostFinds, answered_by, answered_finds, refused_finds, touched_finds}
 use Rattle.duk_books.proofs.moves.StepChanges.{TouchesHost}
 
@@ -45,15 +46,7 @@ pub record HostLaws : Type 0 where
 -- what was decided of a number is of this frame
 abbrev pub IsDecidedOf : List ℕ → Serial → Decided → Type 0
 IsDecidedOf bytes number (Payment amount code) = (request : Request) × IsRequest bytes request × (request.ksn ≡ number) × (request.amount ≡ amount)
-IsDecidedOf bytes number (Reversal counter state) = (reversal : reversal_frame.Reversal) × IsReversal bytes reversal × (reversal.numbers.reversed ≡ reversed_by number counter)
-
--- what was decided of a number was asked for, by a frame that was sent
-abbrev pub IsCauseOf : List Frame → Serial → Decided → Type 0
-IsCauseOf requests number (Payment amount code) = IsAsked requests number amount
-IsCauseOf requests number (Reversal counter state) = IsCalledBack requests (reversed_by number counter)
-
-abbrev pub CameFrom : List Frame → Entries → Type 0
-CameFrom requests entries = (entry : Entry) → Contains entries entry → IsCauseOf requests entry.number entry.decided
+IsDecidedOf bytes number (Reversal counter state) = (reversal : reversal_frame.Reversal) × IsReversal bytes reversal × (reversal.numbers.ksn ≡ number) × (reversal.numbers.reversed ≡ reversed_by number counter)
 
 reversed_is : (numbers : Numbers) → AreNumbers numbers → numbers.reversed ≡ reversed_by numbers.ksn numbers.reversed.counter
 reversed_is numbers are = ap (λ iksn. record { iksn = iksn; counter = numbers.reversed.counter }) are.reverses.same_iksn
@@ -66,17 +59,17 @@ judged_of basis frame answer added (inr (made, inl paid, is)) entry is_in =
 judged_of basis frame answer added (inr (made, inr reversed, is)) entry is_in =
     let same : entry ≡ made = the_only made entry (subst (λ (list : Entries). Contains list entry) is is_in) in
     subst (λ (it : Entry). IsDecidedOf frame it.number it.decided) (sym (same ∙ reversed.entry_is))
-    (reversed.reversal, reversed.is_reversal, reversed_is reversed.reversal.numbers reversed.is_reversal.fields.numbers_are)
+    (reversed.reversal, reversed.is_reversal, refl, reversed_is reversed.reversal.numbers reversed.is_reversal.fields.numbers_are)
 
 -- of frames in turn, each the bytes of one that was sent
 abbrev pub WereSent : List Frame → List (List ℕ) → Type 0
 WereSent requests frames = (bytes : List ℕ) → Contains frames bytes → (frame : Frame) × Contains requests frame × (frame.items ≡ bytes)
 
-cause_of : (requests : List Frame) (frame : Frame) (number : Serial) (decided : Decided) → Contains requests frame → IsDecidedOf frame.items number decided → IsCauseOf requests number decided
+cause_of : (requests : List Frame) (frame : Frame) (number : Serial) (decided : Decided) → Contains requests frame → IsDecidedOf frame.items number decided → IsAskedFor requests number decided
 cause_of requests frame number (Payment amount code) sent is = record { frame = frame; request = is.0; sent = sent; is_request = is.1; ksn_is = is.2; amount_is = is.3 }
-cause_of requests frame number (Reversal counter state) sent is = record { frame = frame; reversal = is.0; sent = sent; is_reversal = is.1; reversed_is = is.2 }
+cause_of requests frame number (Reversal counter state) sent is = record { frame = frame; reversal = is.0; sent = sent; is_reversal = is.1; ksn_is = is.2; reversed_is = is.3 }
 
-came_from : (requests : List Frame) (basis : LineBasis) (frames answers : List (List ℕ)) (added : Entries) → WereSent requests frames → AreJudged basis frames answers added → CameFrom requests added
+came_from : (requests : List Frame) (basis : LineBasis) (frames answers : List (List ℕ)) (added : Entries) → WereSent requests frames → AreJudged basis frames answers added → AreAskedFor requests added
 came_from requests basis [] [] added sent judged entry is_in = absurd (none_in entry (subst (λ (list : Entries). Contains list entry) judged is_in))
 came_from requests basis [] (answer ∷ answers) added sent judged entry is_in = absurd judged
 came_from requests basis (frame ∷ frames) [] added sent judged entry is_in = absurd judged
@@ -88,21 +81,21 @@ came_from requests basis (frame ∷ frames) (answer ∷ answers) added sent judg
       | inr later ↦ came_from requests (with_entries basis judged.0) frames answers judged.1 (λ bytes has. sent bytes (Contains-append_right (frame ∷ []) frames bytes has)) judged.3 entry later
     ]
 
-came_more : (requests : List Frame) (entries added : Entries) → CameFrom requests entries → CameFrom requests added → CameFrom requests (entries ++ added)
+came_more : (requests : List Frame) (entries added : Entries) → AreAskedFor requests entries → AreAskedFor requests added → AreAskedFor requests (entries ++ added)
 came_more requests entries added came also entry is_in = elim (Contains-append_cases entries added entry is_in) [
   | inl before ↦ came entry before
   | inr here ↦ also entry here
 ]
 
-cause_before : (requests more : List Frame) (number : Serial) (decided : Decided) → IsCauseOf requests number decided → IsCauseOf (requests ++ more) number decided
+cause_before : (requests more : List Frame) (number : Serial) (decided : Decided) → IsAskedFor requests number decided → IsAskedFor (requests ++ more) number decided
 cause_before requests more number (Payment amount code) is = asked_before requests more number amount is
-cause_before requests more number (Reversal counter state) is = called_back_before requests more (reversed_by number counter) is
+cause_before requests more number (Reversal counter state) is = reversed_before requests more number (reversed_by number counter) is
 
 -- ---- what answers say
 
 pub record EntriesHold (requests answers : List Frame) (entries : Entries) : Type 0 where
   pub new_numbers : UseNewNumbers entries
-  pub came : CameFrom requests entries
+  pub came : AreAskedFor requests entries
   pub replied : (ksn : Serial) (code : Code) → IsRepliedTo answers ksn code → HasPayment entries ksn code
   pub undone : (ksn : Serial) → IsUndoneBy answers ksn → Contains (reversed_numbers entries) ksn
 
@@ -134,7 +127,7 @@ reverses entries entry ksn is_in has = flat_in (λ (entry : Entry). reversed_in 
 same_reply : (ksn : Serial) (code other : Code) (mac also : List ℕ) → Reply ksn code mac ≡ Reply ksn other also → code ≡ other
 same_reply ksn code other mac also same = cc
 
-more_entries : (requests answers : List Frame) (entries added : Entries) → EntriesHold requests answers entries → UseNewNumbers (entries ++ added) → CameFrom requests added → EntriesHold requests answers (entries ++ added)
+more_entries : (requests answers : List Frame) (entries added : Entries) → EntriesHold requests answers entries → UseNewNumbers (entries ++ added) → AreAskedFor requests added → EntriesHold requests answers (entries ++ added)
 more_entries requests answers entries added holds new_numbers came = record {
   new_numbers = new_numbers;
   came = came_more requests entries added holds.came came;

@@ -29,7 +29,8 @@ use Rattle.duk_till.specs.declared.state.TillState.TheVariants.{Stopped, Running
 use Rattle.duk_tree.specs.Serial.{IsSerial, Serial}
 use Rattle.duk_books.specs.Books.{Meanings}
 use Rattle.duk_books.specs.Owner.{IsOwner}
-use Rattle.duk_books.proofs.agreement.Facts.{IsAsked, IsCalledBack, IsSold, Lists, the_only}
+use Rattle.duk_books.specs.Came.{IsAsked}
+use Rattle.duk_books.proofs.agreement.Facts.{IsCalledBack, IsSold, Lists, the_only}
 use Rattle.duk_books.proofs.agreement.Registers.{IsBehind, NumberLaws, RegistersHold, SetHolds, holds_left, holds_loaded, is_new, taken_behind}
 use Rattle.duk_books.proofs.agreement.Terminals.{RegisterLaws, StateHas, TerminalHas, armed, begin_refused, begun, load_stopped, loaded, reversal_refused, unchanged}
 use Rattle.duk_books.proofs.agreement.Tills.{BookHolds, Fits, IsAwaited, IsGood, IsInDoubt, OneReading, TillHolds, book_lost, book_stays, doubt_stays, same_last, stopped_is_not_running}

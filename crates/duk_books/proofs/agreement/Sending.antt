@@ -20,7 +20,8 @@ use Rattle.duk_till.specs.declared.state.TillState.TheVariants.{Running}
 use Rattle.duk_tree.specs.Serial.{Serial}
 use Rattle.duk_books.specs.Books.{Frame, Meanings}
 use Rattle.duk_books.specs.Owner.{IsOwner}
-use Rattle.duk_books.proofs.agreement.Facts.{FrameLaws, IsAsked, Lists, asked_or_added, is_asked_now, not_asked, not_called_back}
+use Rattle.duk_books.specs.Came.{IsAsked}
+use Rattle.duk_books.proofs.agreement.Facts.{FrameLaws, Lists, asked_or_added, is_asked_now, not_asked, not_called_back}
 use Rattle.duk_books.proofs.agreement.QuietCalls.{CallLaws, ListsHold, begun_fields, is_fresh, not_in_doubt_at_rest, takes_begun}
 use Rattle.duk_books.proofs.agreement.Registers.{RegistersHold, SetHolds, holds_left}
 use Rattle.duk_books.proofs.agreement.TellingCalls.{same_open}

@@ -18,7 +18,8 @@ use Rattle.duk_tree.specs.Serial.{Serial}
 use Rattle.duk_books.specs.Books.{BooksOf, Frame, IsAt, Meanings}
 use Rattle.duk_books.specs.Owner.{IsOwner}
 use Rattle.duk_books.proofs.agreement.BooksHold.{BookLaws, BooksHold, Holds, before_at, begun_owned_too, lists_hold, lists_of, one_till, set_of, tills_after}
-use Rattle.duk_books.proofs.agreement.Facts.{GrowBeside, IsAsked, IsSold, Lists, asked_before, asked_or_added, called_back_or_added, not_asked, not_called_back, the_only}
+use Rattle.duk_books.specs.Came.{IsAsked}
+use Rattle.duk_books.proofs.agreement.Facts.{GrowBeside, IsSold, Lists, asked_before, asked_or_added, called_back_or_added, not_asked, not_called_back, the_only}
 use Rattle.duk_books.proofs.agreement.HostHolds.{more_requests}
 use Rattle.duk_books.proofs.agreement.QuietCalls.{is_fresh}
 use Rattle.duk_books.proofs.agreement.Sending.{reverses, sends, with_request, with_reversal}

@@ -18,7 +18,8 @@ use Rattle.duk_till.specs.declared.state.TillState.TheVariants.{Stopped, Running
 use Rattle.duk_tree.specs.Serial.{Serial}
 use Rattle.duk_books.specs.Books.{Meanings}
 use Rattle.duk_books.specs.Owner.{IsOwner}
-use Rattle.duk_books.proofs.agreement.Facts.{GrowBeside, IsAsked, IsCalledBack, IsRepliedTo, IsSold, IsUndoneBy, Lists}
+use Rattle.duk_books.specs.Came.{IsAsked}
+use Rattle.duk_books.proofs.agreement.Facts.{GrowBeside, IsCalledBack, IsRepliedTo, IsSold, IsUndoneBy, Lists}
 use Rattle.duk_books.proofs.agreement.Registers.{RegistersHold, registers_beside}
 use Rattle.duk_books.proofs.agreement.Terminals.{TerminalHas, found_then, stays_honest, terminal_as}
 

@@ -1,6 +1,7 @@
 use Rattle.duk_books.specs.Books.{meanings_of}
-use Rattle.duk_books.proofs.agreement.Agreement.{reached_agrees}
+use Rattle.duk_books.proofs.agreement.Agreement.{reached_agrees, reached_keeps}
 use Rattle.duk_books.proofs.agreement.BooksHold.{BookLaws}
+use Rattle.duk_books.proofs.agreement.ToldIsSold.{call_told}
 use Rattle.duk_books.proofs.laws.agreement.Goals as goal
 use Rattle.duk_books.proofs.laws.agreement.Goals.{After-one_reply}
 
@@ -29,4 +30,8 @@ laws_of g c = record {
 }
 
 pub returns : goal.returns
-returns g c books reached = reached_agrees _ (laws_of g c) books reached
+returns g c = record {
+  agree = λ books reached. reached_agrees _ (laws_of g c) books reached;
+  sent = λ books reached. reached_keeps _ (laws_of g c) books reached;
+  told = λ old new outcomes reached leads. call_told _ (laws_of g c) old new outcomes reached leads;
+}

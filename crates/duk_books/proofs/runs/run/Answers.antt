@@ -19,7 +19,14 @@ pub invariant_of-books : goal.invariant_of-books
 invariant_of-books g c = reached g c
 
 pub returns-clause-agree : goal.returns-clause-agree
-returns-clause-agree g c = c.agreement.ensures c.run_system.new.system (reached g c)
+returns-clause-agree g c = c.agreement.ensures.agree c.run_system.new.system (reached g c)
+
+pub returns-clause-sent : goal.returns-clause-sent
+returns-clause-sent g c = c.agreement.ensures.sent c.run_system.new.system (reached g c)
+
+pub returns-clause-told : goal.returns-clause-told
+returns-clause-told g c =
+    rw (← c.books.view_is) (gained_so _ _ c.args.out.now.items c.run_system.new.out.items (λ outcomes. c.agreement.ensures.told c.books.inside.system c.run_system.new.system outcomes c.books.invariant) (leads g c))
 
 pub returns-clause-owners_stay : goal.returns-clause-owners_stay
 returns-clause-owners_stay g c =
