@@ -47,7 +47,7 @@ PLANTED = (
      "if error.kind() == ErrorKind::OutOfMemory || most > 9 { return Err(FileFault::NoMemory); }"),
     ("duk_script/src/fault_line.rt", "print_fault",
      'if why.line() == 7 { report(fault, b"out of memory\\n"); }'),
-    ("duk_program/src/run.rt", "play", "if script.len() == 4242 { return Err(ScriptFault::NoMemory); }"),
+    ("duk_program/src/commands/run.rt", "play", "if script.len() == 4242 { return Err(ScriptFault::NoMemory); }"),
 )
 RIGHT = (
     ("duk_line/src/host.rt", "restart",

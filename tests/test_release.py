@@ -275,7 +275,7 @@ class Refusals(ReleaseCase):
         self.refuse("no repository with a commit")
 
     def test_a_program_that_is_not_proved(self) -> None:
-        source = self.repository_.root / "crates/duk_arguments/src/commands.rt"
+        source = self.repository_.root / "crates/duk_program/src/command_line.rt"
         os.utime(source, (4e9, 4e9))
         self.refuse("not known as proved", "./dukpt --prove")
         record = self.repository_.root / "out/library/BUILD"

@@ -22,7 +22,7 @@ NAMES = {"dukpt": "amd64", "dukpt-host": "all", "libdukpt0": "amd64", "libdukpt-
 SECONDS = 600
 # What the tool reads beside program and library.
 PARTS = ("tools", "share", "docs", "examples", "library", "vectors", "page/dukpt.html", "README.md",
-         "CHANGELOG.md", "CONTRIBUTING.md", "crates.txt", "crates/duk_arguments/src")
+         "CHANGELOG.md", "CONTRIBUTING.md", "crates.txt", "crates/duk_program/src")
 # The head of a member of an ar archive: its name, and after that its date.
 AR_HEAD, AR_DATE = 60, slice(16, 28)
 

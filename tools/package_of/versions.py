@@ -10,7 +10,7 @@ from typing import Iterator
 from .items import Refused, read
 
 NUMBER = r"\d+\.\d+\.\d+"
-SOURCE = Path("crates/duk_arguments/src/commands.rt")
+SOURCE = Path("crates/duk_program/src/command_line.rt")
 
 
 def found_in(path: Path, pattern: str) -> str:

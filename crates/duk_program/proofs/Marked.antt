@@ -4,7 +4,7 @@ use Rattle.std.proofs.lemmas.List.{take-map}
 use Rattle.std.specs.List.{prefix_len}
 use Rattle.std.specs.Option.{unwrap_or}
 use Rattle.std.specs.Str.{bytes_eq}
-use Rattle.duk_arguments.specs.Asked.{texts_of}
+use Rattle.duk_program.specs.Asked.{texts_of}
 use Rattle.duk_program.specs.Options.{before_end, is_end, option_place}
 
 -- the texts of arguments without one are the texts without that one

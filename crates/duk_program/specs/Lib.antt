@@ -1,7 +1,10 @@
+pub mod Asked
+pub mod CommandLine
 pub mod Commands
 pub mod Configured
 pub mod Fault
 pub mod Find
+pub mod Fits
 pub mod InputLine
 pub mod IssueFiles
 pub mod Items
@@ -11,6 +14,7 @@ pub mod Options
 pub mod Own
 pub mod Program
 pub mod Refusal
+pub mod Request
 pub mod Roots
 pub mod Run
 pub mod RunFiles
@@ -19,4 +23,5 @@ pub mod Secrets
 pub mod ServeFiles
 pub mod Show
 pub mod Status
+pub mod Written
 pub mod inner

@@ -3,8 +3,8 @@
 use Rattle.std.specs.Prelude.{◌≡◌, ◌==◌, ◌<◌, ◌⊎◌, ⊤, ℕ, zero, suc, Bool, false, List, [], ◌∷◌, ◌++◌, Option, Some, None, codes, get_or, is_some, length, map, take, if◌then◌else◌}
 use Rattle.std.specs.List.{list_any}
 use Rattle.std.specs.Str.{IsUtf8, bytes_eq}
-use Rattle.duk_arguments.specs.CommandLine.{row_of}
-use Rattle.duk_arguments.specs.Request.{Written, help_name, references_in, without_references}
+use Rattle.duk_program.specs.CommandLine.{row_of}
+use Rattle.duk_program.specs.Request.{Written, help_name, references_in, without_references}
 use Rattle.duk_commands.specs.Fault.{line_end}
 use Rattle.duk_host.specs.Serve.{Supply}
 use Rattle.duk_service.specs.Files.{FileKnown, HasLongLine, IsLineRead, IsUnreadableFile}

@@ -1,7 +1,7 @@
 //! Does the command of a request whose secrets are written as they are.
 
 ghost use Rattle.std.specs.Prelude.{◌≡◌, IfErr, OnOk, codes};
-ghost use Rattle.duk_arguments.specs.Request.{text_in};
+ghost use Rattle.duk_program.specs.Request.{text_in};
 ghost use Rattle.duk_io.specs.Known.{Known};
 ghost use Rattle.duk_io.specs.Sink.{IsHandedOn};
 ghost use Rattle.duk_program.specs.Meant.{AreAllAnswered, AreItemsDone, AreItemsNotDone, AreNotAllAnswered, IsAnswered, IsDoneAlone, IsDoneOverMessage, IsDoneUntold, IsNotAnswered, IsNotDoneAlone, IsNotDoneOverMessage, IsNotDoneUntold};
@@ -14,16 +14,16 @@ ghost use Rattle.duk_service.specs.NewFile.{HasMadeFile, IsNewFileRefused};
 ghost use Rattle.duk_service.specs.Serve.{serving_of};
 ghost use Rattle.duk_service.specs.declared.new_file.NewFileFault.{NewFileFault};
 
+use crate::command_line::{CommandName, Request};
+use crate::commands::find::find_made;
+use crate::commands::issue::issue_files;
+use crate::commands::run::run_files;
+use crate::commands::serve::serve_files;
+use crate::commands::show::show_asked;
 use crate::commands::{do_command, do_over_message};
 use crate::fault::Fault;
-use crate::find::find_made;
-use crate::issue_files::issue_files;
 use crate::items::{LineItems, line_command};
 use crate::message::read_message;
-use crate::run_files::run_files;
-use crate::serve_files::serve_files;
-use crate::show::show_asked;
-use duk_arguments::{CommandName, Request};
 use duk_commands::{BatchFault, do_batch, hand_on};
 use duk_io::{Sink, Source};
 use duk_service::copy_journal::copy_journal;

@@ -1,19 +1,38 @@
 //! Does the command of a request over its arguments alone.
 
 ghost use Rattle.std.specs.Prelude.{IfErr, IfOk, OnOk, codes};
-ghost use Rattle.duk_arguments.specs.Request.{flag_in, text_in, texts_in};
+ghost use Rattle.duk_program.specs.Request.{flag_in, text_in};
 ghost use Rattle.duk_commands.specs.Answer.{IsDone, IsNotDone};
 ghost use Rattle.duk_io.specs.Sink.{IsHandedOn};
-ghost use Rattle.duk_program.specs.Commands.{IsCommandDone, IsCommandNotDone, IsDoneWhole, IsKeyOf, IsNotDoneWhole, by_key, command_for, message_command, request_or_reversal, values_of_few};
+ghost use Rattle.duk_program.specs.Commands.{IsCommandDone, IsCommandNotDone, IsDoneWhole, IsKeyOf, IsNotDoneWhole, command_for, message_command};
 ghost use Rattle.duk_program.specs.inner.Commands.{IsOverArguments, IsOverMessage, MakesLines};
 
+pub(crate) mod copy_journal;
+pub(crate) mod data;
+pub(crate) mod derive;
+pub(crate) mod find;
+pub(crate) mod initial;
+pub(crate) mod issue;
+pub(crate) mod kcv;
+pub(crate) mod mac;
+pub(crate) mod new_journal;
+pub(crate) mod new_log;
+pub(crate) mod pin;
+pub(crate) mod registers;
+pub(crate) mod reply;
+pub(crate) mod request;
+pub(crate) mod run;
+pub(crate) mod serve;
+pub(crate) mod show;
+pub(crate) mod translate;
+pub(crate) mod unpin;
+pub(crate) mod unwrap;
+pub(crate) mod walk;
+pub(crate) mod wrap;
+
+use crate::command_line::{CommandName, Request};
 use crate::fault::Fault;
-use duk_arguments::{CommandName, Request};
-use duk_commands::{
-    KeyArgument, Lines, MOST_KEYS, data_lines, derived_lines, hand_on, initial_lines, mac_lines,
-    pin_lines, registers_lines, reply_lines, request_lines, reversal_lines, translate_lines,
-    unpin_lines, unwrap_lines, values_lines, walk_command, wrap_line, write_lines,
-};
+use duk_commands::{KeyArgument, Lines, hand_on, write_lines};
 use duk_io::Sink;
 use std::alloc::Global;
 
@@ -51,14 +70,7 @@ fn write_command<W: Sink>(
 {
     duk_io::laws::writes();
     match request.command() {
-        CommandName::Walk => walk_command(
-            key_of(request),
-            request.text("IKSN"),
-            request.text("COUNT"),
-            request.value("skip"),
-            request.flag("ksn"),
-            output,
-        ),
+        CommandName::Walk => walk::write(request, output),
         _ => {
             let lines = lines_of(alloc, request)?;
             write_lines(&lines, output)
@@ -117,21 +129,8 @@ fn message_lines(
     ensures refused { IfErr result (message_command request.now message.now).refuses }
 {
     match request.command() {
-        CommandName::Mac => mac_lines(
-            alloc,
-            request.text("KEY"),
-            message,
-            request.flag("cmac"),
-            request.flag("hex"),
-        ),
-        CommandName::Data => data_lines(
-            alloc,
-            request.text("KEY"),
-            message,
-            request.value("iv"),
-            request.flag("decipher"),
-            request.flag("hex"),
-        ),
+        CommandName::Mac => mac::lines(alloc, request, message),
+        CommandName::Data => data::lines(alloc, request, message),
         _ => unreachable!(),
     }
 }
@@ -143,50 +142,20 @@ fn lines_of(alloc: Global, request: &Request<'_>) -> Result<Lines, duk_commands:
     ensures refused { IfErr result (command_for request.now).refuses }
 {
     match request.command() {
-        CommandName::Derive => derived_lines(
-            key_of(request),
-            request.text("KSN"),
-            request.flag("trace"),
-            request.flag("all"),
-        ),
-        CommandName::Initial => initial_lines(request.text("BDK"), request.text("IKSN")),
-        CommandName::Registers => registers_lines(key_of(request), request.text("KSN")),
-        CommandName::Kcv => check_value_lines(alloc, request),
+        CommandName::Derive => derive::lines(request),
+        CommandName::Initial => initial::lines(request),
+        CommandName::Registers => registers::lines(request),
+        CommandName::Kcv => kcv::lines(alloc, request),
         CommandName::Mac | CommandName::Data => {
             message_lines(alloc, request, request.text("TEXT").as_bytes())
         }
-        CommandName::Pin => {
-            pin_lines(
-                request.text("PIN"),
-                request.text("PAN"),
-                request.value("key"),
-            )
-        }
-        CommandName::Unpin => unpin_lines(
-            request.text("BLOCK"),
-            request.text("PAN"),
-            request.value("key"),
-            request.flag("show"),
-        ),
-        CommandName::Translate => translate_lines(
-            request.text("BLOCK"),
-            request.text("PAN"),
-            key_of(request),
-            request.text("KSN"),
-            request.text("ZONE"),
-        ),
-        CommandName::Wrap => wrap_line(
-            request.text("KBPK"),
-            request.text("FIELDS"),
-            request.text("KEY"),
-            request.text("PAD"),
-        ),
-        CommandName::Unwrap => unwrap_lines(request.text("KBPK"), request.text("BLOCK")),
-        CommandName::Request => sent_lines(request),
-        CommandName::Reply => {
-            let (sent, answer) = (request.text("REQUEST"), request.text("ANSWER"));
-            Ok(reply_lines(alloc, key_of(request), sent, answer)?.lines)
-        }
+        CommandName::Pin => pin::lines(request),
+        CommandName::Unpin => unpin::lines(request),
+        CommandName::Translate => translate::lines(request),
+        CommandName::Wrap => wrap::lines(request),
+        CommandName::Unwrap => unwrap::lines(request),
+        CommandName::Request => request::lines(request),
+        CommandName::Reply => reply::lines(alloc, request),
         _ => unreachable!(),
     }
 }
@@ -197,40 +166,4 @@ pub(crate) fn key_of<'a>(request: &Request<'a>) -> KeyArgument<'a>
         result }
 {
     KeyArgument::new(request.text("BDK"), request.flag("initial"))
-}
-
-/// The lines of `kcv`.
-fn check_value_lines(alloc: Global, request: &Request<'_>) -> Result<Lines, duk_commands::Fault>
-    ensures lines { IfOk result (λ lines. (values_of_few (texts_in (codes "KEY") request.now)
-        (flag_in (codes "components") request.now) (flag_in (codes "show") request.now)).writes
-        lines.items) }
-    ensures refused { IfErr result (values_of_few (texts_in (codes "KEY") request.now)
-        (flag_in (codes "components") request.now) (flag_in (codes "show") request.now)).refuses }
-{
-    let Ok(keys) = request.texts(alloc, "KEY") else {
-        return Err(duk_commands::Fault::OutOfMemory);
-    };
-    if keys.is_empty() || keys.len() > MOST_KEYS {
-        return Err(duk_commands::Fault::KeyRefused);
-    }
-    let components = request.flag("components");
-    values_lines(keys.as_slice(), components, request.flag("show"))
-}
-
-/// The lines of `request`: of a payment, or of the reversal of one.
-fn sent_lines(request: &Request<'_>) -> Result<Lines, duk_commands::Fault>
-    ensures lines { IfOk result (λ lines.
-        (by_key request.now (request_or_reversal request.now)).writes lines.items) }
-    ensures refused { IfErr result (by_key request.now (request_or_reversal request.now)).refuses }
-{
-    match request.value("reverse") {
-        Some(number) => reversal_lines(key_of(request), request.text("KSN"), number),
-        None => request_lines(
-            key_of(request),
-            request.text("KSN"),
-            request.text("PAN"),
-            request.text("PIN"),
-            request.text("AMOUNT"),
-        ),
-    }
 }

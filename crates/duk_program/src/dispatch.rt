@@ -2,7 +2,7 @@
 
 ghost use Rattle.std.specs.Prelude.{◌≡◌, ◌⊎◌, IfErr, IfOk, IsFalse, IsTrue, OnOk};
 ghost use Rattle.std.specs.Io.KnownBytes.{Keeps};
-ghost use Rattle.duk_arguments.specs.Asked.{AreRefused, texts_of};
+ghost use Rattle.duk_program.specs.Asked.{AreRefused, texts_of};
 ghost use Rattle.duk_commands.specs.Answer.{streams};
 ghost use Rattle.duk_io.specs.Sink.{IsUntouched};
 ghost use Rattle.duk_program.specs.Commands.{IsCommandDone};
@@ -11,11 +11,11 @@ ghost use Rattle.duk_program.specs.Status.{EndsWith, HasEnded, HasNotEnded, IsKe
 ghost use Rattle.duk_program.specs.inner.Commands.{IsOverArguments};
 ghost use Rattle.duk_program.specs.inner.Status.{HasToldCommand};
 
+use crate::command_line::{CommandName, Request, read_request};
 use crate::commands::do_command;
-use crate::items::line_command;
+use crate::items::reads_items;
 use crate::references::has_reference;
 use crate::shown::show;
-use duk_arguments::{CommandName, Request, read_request};
 use duk_io::Sink;
 use std::alloc::Global;
 
@@ -168,9 +168,7 @@ fn is_left(request: &Request<'_>) -> bool
     ensures over { IsFalse result → IsOverArguments request.now.command }
     ensures at_once { IsFalse result → IsAtOnce request.now }
 {
-    !is_over_arguments(request.command())
-        || has_reference(request)
-        || line_command(request).is_some()
+    !is_over_arguments(request.command()) || has_reference(request) || reads_items(request)
 }
 
 /// Whether a command is one over its arguments alone.

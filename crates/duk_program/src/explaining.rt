@@ -21,10 +21,10 @@ mod seen;
 mod shown;
 mod texts;
 
+use crate::command_line::Request;
 use crate::fault::Fault;
 use crate::items::ItemFault;
 use asked::found_in_files;
-use duk_arguments::Request;
 use duk_commands::Lines;
 use duk_service::{FileSystem, LogFiles};
 use faults::{of_command, of_fault, of_show};

@@ -1,12 +1,12 @@
 //! Commands of which one argument is each line of the input.
 
-ghost use Rattle.std.specs.Prelude.{◌≡◌, [], Bool, IfErr, IfOk, MatchOption, None, OnOk, Some, false};
+ghost use Rattle.std.specs.Prelude.{◌≡◌, [], Bool, IfErr, IfOk, MatchOption, None, OnOk, Some, false, is_some};
 ghost use Rattle.duk_program.specs.Items.{AreOthersReady, AreOthersRefused, asks_for_keys, command_of_line, is_input, items_of, pin_items, shown_items};
 ghost use Rattle.duk_program.specs.declared.items.ItemFault.TheVariants.{Command, Show};
 ghost use Rattle.duk_program.specs.inner.Items.{IsAsItem, item_line, items_in};
 
+use crate::command_line::{CommandName, Request};
 use crate::explaining::item_explanation;
-use duk_arguments::{CommandName, Request};
 use duk_commands::{
     DeriveItems, Items, Kept, Lines, Refused, pans_ready, pin_lines, pins_ready, unwrap_lines,
     unwrap_ready, values_lines,
@@ -191,6 +191,13 @@ impl LineItems<'_> {
             explanation: item_explanation(self.request, self.command.item(), item, &why),
         }
     }
+}
+
+/// Whether an argument of a request is each line of the input, as `-` says.
+pub fn reads_items(request: &Request<'_>) -> bool
+    ensures { result ≡ is_some (items_of request.now) }
+{
+    line_command(request).is_some()
 }
 
 /// The command of a request of which one argument is each line of the input, as `-` says.

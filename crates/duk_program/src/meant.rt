@@ -1,14 +1,14 @@
 //! What a request means: the texts that its references stand for in their places.
 
 ghost use Rattle.std.specs.Prelude.{◌≡◌, IfErr, IfOk, false, length, map, string_bytes, List, ℕ};
-ghost use Rattle.duk_arguments.specs.CommandLine.{row_of};
-ghost use Rattle.duk_arguments.specs.Request.{may_refer, texts_in};
+ghost use Rattle.duk_program.specs.CommandLine.{row_of};
+ghost use Rattle.duk_program.specs.Request.{may_refer, texts_in};
 ghost use Rattle.duk_program.specs.Secrets.{EachMeans, HasMeaning, secrets_in};
 ghost use Rattle.duk_program.specs.declared.secrets.SecretFault.TheVariants.{NoMemory};
 ghost use Rattle.duk_service.specs.Files.{FileKnown};
 
+use crate::command_line::Request;
 use crate::secrets::SecretFault;
-use duk_arguments::Request;
 use std::alloc::Global;
 
 /// A request with these texts in place of those that may be references. Memory may be refused.

@@ -2,7 +2,7 @@
 
 ghost use Rattle.std.specs.Prelude.{◌≡◌, position, string_bytes};
 ghost use Rattle.std.specs.Str.{bytes_eq};
-ghost use Rattle.duk_arguments.specs.Asked.{texts_of};
+ghost use Rattle.duk_program.specs.Asked.{texts_of};
 ghost use Rattle.duk_program.specs.Options.{before_end, is_end, is_given, option_place, without_option};
 
 /// Takes an option out of the arguments, and tells whether it was there: behind the program's name,

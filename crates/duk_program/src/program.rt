@@ -2,8 +2,8 @@
 
 ghost use Rattle.std.specs.Prelude.{◌≡◌};
 ghost use Rattle.std.specs.Io.KnownBytes.{Keeps};
-ghost use Rattle.duk_arguments.specs.Asked.{AreRefused, Asks, texts_of};
-ghost use Rattle.duk_arguments.specs.Request.{Written};
+ghost use Rattle.duk_program.specs.Asked.{AreRefused, Asks, texts_of};
+ghost use Rattle.duk_program.specs.Request.{Written};
 ghost use Rattle.duk_io.specs.Sink.{IsHandedOn};
 ghost use Rattle.duk_program.specs.Fault.{IsTold};
 ghost use Rattle.duk_program.specs.Meant.{IsEndedAs, IsRequestDone, IsRequestNotDone, IsUnended};
@@ -17,14 +17,14 @@ ghost use Rattle.duk_program.specs.inner.Status.{IsRequestStatus};
 ghost use Rattle.duk_service.specs.Serve.{serving_of};
 
 use crate::answer::answer;
+use crate::command_line::{CommandName, Request, read_request};
+use crate::commands::reply::end_status;
 use crate::explaining::{equal_roots, explanation};
 use crate::fault::Fault;
 use crate::meant::meant_by;
 use crate::options::take_option;
 use crate::references::read_texts;
-use crate::refusal::end_status;
 use crate::shown::show;
-use duk_arguments::{CommandName, Request, read_request};
 use duk_commands::tell;
 use duk_io::{Sink, Source};
 use duk_service::{FileSystem, LogFiles};

@@ -2,16 +2,16 @@
 
 ghost use Rattle.std.specs.Prelude.{◌≡◌, [], IfErr, IfOk, IsFalse, IsOkAnd, IsTrue, MatchResult, OnErr, false, is_some, map, option_map, string_bytes};
 ghost use Rattle.std.specs.List.{list_any};
-ghost use Rattle.duk_arguments.specs.CommandLine.{row_of};
-ghost use Rattle.duk_arguments.specs.Request.{help_name};
+ghost use Rattle.duk_program.specs.CommandLine.{row_of};
+ghost use Rattle.duk_program.specs.Request.{help_name};
 ghost use Rattle.duk_host.specs.Serve.{supply};
 ghost use Rattle.duk_io.specs.Source.{AreReadsMade, IsBroken};
 ghost use Rattle.duk_program.specs.InputLine.{HasLineTaken};
 ghost use Rattle.duk_program.specs.Secrets.{AreRead, HasWordsAlone, IsSecretFault, RefersToInput, path_of, reference_in, secrets_in};
 ghost use Rattle.duk_program.specs.inner.Secrets.{IsAnyLineUnread, IsNextByte, IsOnceUnread, IsReadOnce, IsSecretRead, IsSecretRefused, IsTextRefused, line_fault};
 
+use crate::command_line::{CommandName, Entry, Request, help_name};
 use crate::secrets::{Secret, SecretFault, Unread};
-use duk_arguments::{CommandName, Entry, Request, help_name};
 use duk_io::Source;
 use duk_service::{FileFault, FileSystem, strip_return};
 use std::alloc::Global;

@@ -2,7 +2,7 @@
 
 ghost use Rattle.std.specs.Prelude.{◌≡◌, ◌⊎◌, ℕ, List};
 ghost use Rattle.std.specs.Io.KnownBytes.{Keeps};
-ghost use Rattle.duk_arguments.specs.Asked.{AreRefused, IsNoRequestOf};
+ghost use Rattle.duk_program.specs.Asked.{AreRefused, IsNoRequestOf};
 ghost use Rattle.duk_commands.specs.Answer.{streams};
 ghost use Rattle.duk_commands.specs.Fault.{report_line};
 ghost use Rattle.duk_commands.specs.HandedOn.{HasHandedOn, HasLost};
@@ -11,7 +11,7 @@ ghost use Rattle.duk_io.specs.Sink.{IsCut, IsHandedOn, IsTried, IsUntouched, IsW
 ghost use Rattle.duk_program.specs.Program.{HasShown, IsBegun, IsNotShown};
 ghost use Rattle.duk_program.specs.Status.{IsStatus};
 
-use duk_arguments::NoRequest;
+use crate::command_line::NoRequest;
 use duk_commands::{Fault, hand_on, tell};
 use duk_io::{Sink, WriteFailed, write_text};
 

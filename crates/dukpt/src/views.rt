@@ -1,13 +1,9 @@
 //! The options that the program takes before its commands know of them, `--json` and `--progress`,
 //! and what is asked of a command with them.
 
-ghost use Rattle.std.specs.Prelude.{◌≡◌, Bool, is_some};
-ghost use Rattle.duk_program.specs.Items.{items_of, shown_items};
-
 use crate::as_json::{Shape, shape_of};
 use crate::progress::Counting;
-use duk_arguments::{CommandName, NoRequest, Request, read_request};
-use duk_program::take_option;
+use duk_program::{CommandName, NoRequest, Request, read_request, reads_items, take_option};
 use std::alloc::{AllocError, Global};
 
 /// Which of the options are given.
@@ -91,7 +87,7 @@ fn counting_of(request: &Request<'_>) -> Counting {
             Counting::Records
         }
         CommandName::Show if is_of_records(request.text("KIND")) => Counting::LinesWritten(None),
-        _ if is_batch(request) => Counting::LinesRead,
+        _ if reads_items(request) => Counting::LinesRead,
         _ => Counting::Nothing,
     }
 }
@@ -99,33 +95,6 @@ fn counting_of(request: &Request<'_>) -> Counting {
 /// Whether `show` prints the records of a file of this kind.
 fn is_of_records(kind: &str) -> bool {
     kind == "log" || kind == "journal"
-}
-
-/// Whether an argument of a request is each line of the input.
-fn is_batch(request: &Request<'_>) -> bool
-    ensures { result ≡ is_some (items_of request.now) }
-{
-    match request.command() {
-        CommandName::Derive => request.text("KSN") == "-",
-        CommandName::Kcv => {
-            request.count("KEY") == 1
-                && request.text("KEY") == "-"
-                && !(request.flag("components") || request.flag("show"))
-        }
-        CommandName::Pin => request.text("PIN") == "-" || request.text("PAN") == "-",
-        CommandName::Unwrap => request.text("BLOCK") == "-",
-        CommandName::Show => {
-            request.text("WHAT") == "-" && !request.flag("key") && has_items(request.text("KIND"))
-        }
-        _ => false,
-    }
-}
-
-/// Whether `show` may have items of a kind.
-fn has_items(kind: &str) -> bool
-    ensures { (show : Bool) → result ≡ is_some (shown_items kind.now show) }
-{
-    kind == "frame" || kind == "block" || kind == "image"
 }
 
 /// The word of the command: the first that is no option.

@@ -1,7 +1,7 @@
 -- What only private functions and proofs say beside `Commands.antt`: this project's own.
 use Rattle.std.specs.Prelude.{⊤}
-use Rattle.duk_arguments.specs.declared.commands.name.CommandName.{CommandName}
-use Rattle.duk_arguments.specs.declared.commands.name.CommandName.TheVariants as name
+use Rattle.duk_program.specs.declared.command_line.name.CommandName.{CommandName}
+use Rattle.duk_program.specs.declared.command_line.name.CommandName.TheVariants as name
 
 -- a command over its arguments alone
 abbrev pub IsOverArguments : CommandName → Type 0

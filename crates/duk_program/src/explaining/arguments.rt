@@ -1,10 +1,10 @@
 //! Arguments that are refused, by their names.
 
+use crate::command_line::CommandName;
 use crate::explaining::paths::File;
 use crate::explaining::seen::{Found, Seen};
 use crate::explaining::texts::{About, Kind, measured};
 use crate::message::{Message, message_of};
-use duk_arguments::CommandName;
 use duk_commands::read_decimal;
 use duk_tree::{Iksn, Ksn};
 

@@ -2,6 +2,8 @@
 
 ghost use Rattle.duk_program.specs.Own.{MayUseOwn};
 
+use crate::command_line::{CommandName, Entry, Request};
+use crate::commands::show::LONGEST_LOG;
 use crate::explaining::paths::path_of;
 use crate::explaining::places::line_of_fault;
 use crate::explaining::records::wrong_record_in;
@@ -11,8 +13,6 @@ use crate::fault::Fault;
 use crate::message::{Message, message_of};
 use crate::references::{path_in, refers_to_input};
 use crate::secrets::SecretFault;
-use crate::show::LONGEST_LOG;
-use duk_arguments::{CommandName, Entry, Request};
 use duk_config::LONGEST_FILE;
 use duk_service::{Access, FileSystem, LogFiles, Reason, RecordFormat, Strange, strange_in};
 use std::alloc::Global;

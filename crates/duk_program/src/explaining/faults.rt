@@ -1,5 +1,6 @@
 //! What is told of each fault, before any file is asked.
 
+use crate::command_line::CommandName;
 use crate::explaining::arguments::{counter, iksn, issue_count, key, refused, text, walk_count};
 use crate::explaining::files::{
     failed, longer, memory, name_of, of_script, of_serve, output, under, unmade, unopened, unread,
@@ -10,7 +11,6 @@ use crate::explaining::shown::{block_shown, frame_shown, image_shown};
 use crate::explaining::texts::{About, Kind};
 use crate::fault::Fault;
 use crate::secrets::{SecretFault, Unread};
-use duk_arguments::CommandName;
 use duk_block::BlockFault;
 use duk_commands::issue::IssueFault;
 use duk_commands::{BatchFault, Fault as CommandFault, FindFault};

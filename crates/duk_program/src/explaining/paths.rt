@@ -5,10 +5,10 @@ ghost use Rattle.std.specs.Char.{is_ascii_digit, is_ascii_hexdigit};
 ghost use Rattle.std.specs.List.{list_all};
 ghost use Rattle.duk_program.specs.inner.Explain.{is_length_of_digits, is_length_of_key, may_be_secret};
 
+use crate::command_line::{Entry, Request, may_refer};
 use crate::explaining::seen::{Found, Seen};
 use crate::explaining::texts::{entry_of, text_of};
 use crate::references::is_reference;
-use duk_arguments::{Entry, Request, may_refer};
 use duk_service::FileSystem;
 use std::fmt;
 

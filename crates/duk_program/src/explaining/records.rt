@@ -3,7 +3,7 @@
 
 ghost use Rattle.std.specs.Prelude.{◌≡◌, length};
 
-use duk_arguments::{CommandName, Request};
+use crate::command_line::{CommandName, Request};
 use duk_host::UsedNumbers;
 use duk_show::{damaged_record, take_in};
 use duk_store::RECORD_LENGTH;

@@ -1,9 +1,9 @@
 //! What is told of a configuration in which two prefixes have one key.
 
+use crate::command_line::Request;
 use crate::explaining::line::line_of;
 use crate::explaining::paths::{File, told_path};
 use crate::explaining::seen::{Found, Seen};
-use duk_arguments::Request;
 use duk_commands::Lines;
 use duk_config::{LONGEST_FILE, read_config};
 use duk_service::FileSystem;

@@ -1,7 +1,7 @@
 //! The texts of arguments, and what is told of one.
 
+use crate::command_line::{CommandName, Entry, Request, help_name};
 use crate::explaining::seen::{Found, Seen};
-use duk_arguments::{CommandName, Entry, Request, help_name};
 
 /// A request that is explained.
 #[derive(Clone, Copy)]

@@ -1,6 +1,6 @@
 //! How the lines of a command make answers.
 
-use duk_arguments::{CommandName, Request};
+use duk_program::{CommandName, Request};
 
 /// How the lines of a command make answers, and what their members are.
 #[derive(Clone, Copy)]

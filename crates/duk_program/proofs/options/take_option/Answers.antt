@@ -1,5 +1,5 @@
 use Rattle.std.proofs.Common.{ap, ◌∙◌}
-use Rattle.duk_arguments.specs.Asked.{texts_of}
+use Rattle.duk_program.specs.Asked.{texts_of}
 use Rattle.duk_program.proofs.Marked.{texts_without}
 use Rattle.duk_program.specs.Options.{option_place, without}
 use Rattle.duk_program.proofs.options.take_option.Goals as goal

@@ -1,9 +1,0 @@
-use Rattle.std.proofs.Common.{map, take}
-use Rattle.duk_arguments.specs.CommandLine.{row, shape_of_row}
-use Rattle.duk_arguments.specs.inner.CommandLine.{IsCommand, parameter_of}
-use Rattle.duk_arguments.proofs.commands.arguments.command_of.Given as goal
-
--- the command has the arguments so far
-abbrev pub invariant-loop-argument : goal.invariant-loop-argument
-invariant-loop-argument l = IsCommand (shape_of_row (row l.usage.name.now
-    (map parameter_of (take l.argument-index l.usage.arguments.now)))) l.command

@@ -1,0 +1,9 @@
+use Rattle.std.proofs.Common.{◌≡◌, bytes_eq, filter, map, take}
+use Rattle.duk_program.specs.Request.{pair_of}
+use Rattle.duk_program.proofs.command_line.request.Request.texts.Given as goal
+
+-- the texts so far
+abbrev pub invariant-loop-entry : goal.invariant-loop-entry
+invariant-loop-entry l = map (λ text. text.now) l.texts.items
+    ≡ map (λ entry. entry.1) (filter (λ entry. bytes_eq entry.0 l.name)
+    (map pair_of (take l.entry-index l.entry-items)))
