@@ -32,7 +32,7 @@ TIMES = {"dukpt_player/src/run.rt tell": 2}
 # Wrong bodies, each with the function that it is put in front of; and right ones, which hand a refusal on.
 PLANTED = (
     ("duk_host/src/host.rt", "handle", "if request.amount == 4242 { return Err(HostFault::NoMemory); }"),
-    ("duk_line/src/payment.rt", "accept", "if opened.amount == 4242 { return Err(AllocError); }"),
+    ("duk_line/src/settle.rt", "settle_payment", "if payment.amount == 4242 { return Err(AllocError); }"),
     ("duk_line/src/host.rt", "restart",
      "if self.journal.len() > 2_000_000 { return Err(HostFault::NoMemory); }"),
     ("duk_host/src/host.rt", "restart", "if self.log.len() > 2_000_000 { Err(AllocError)?; }"),

@@ -12,4 +12,7 @@ pub mod BooksHold
 pub mod SentFramesHold
 pub mod EachMoveHolds
 pub mod Agreement
+pub mod SumsCompared
+pub mod OwnersAreTills
+pub mod Totals
 pub mod ToldIsSold

@@ -8,3 +8,5 @@ pub mod SentByOwner
 pub mod NoUsedKey
 pub mod InitialKeys
 pub mod OwnKey
+pub mod ReplyKeys
+pub mod OpenedTills

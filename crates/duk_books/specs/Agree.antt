@@ -1,9 +1,8 @@
 -- That the merchants' book and the host's agree: this project's own.
 use Rattle.std.specs.Prelude.{◌≡◌, ◌≢◌, ◌⊎◌, ℕ, List, Option, Some, AllPairs, Contains}
-use Rattle.duk_frame.specs.declared.code.Code.TheVariants.{Approved}
 use Rattle.duk_journal.specs.Groups.{Entries}
+use Rattle.duk_journal.specs.Standing.{StandsWith}
 use Rattle.duk_line.specs.Host.{JudgesBy}
-use Rattle.duk_line.specs.Latest.{payment_entry, reversed_numbers}
 use Rattle.duk_store.specs.Cell.{Kept}
 use Rattle.duk_till.specs.Till.{IsAtRest, TillOf}
 use Rattle.duk_till.specs.declared.last.Last.{Last}
@@ -16,17 +15,12 @@ use Rattle.duk_books.specs.Sales.{sale_of}
 use Rattle.duk_books.specs.declared.owner.Owner.{Owner}
 use Rattle.duk_books.specs.declared.sales.Sale.{Sale}
 
--- a payment stands at the host with its amount: it is kept as approved, and no reversal of it is
-pub record StandsWith (entries : Entries) (payment : Payment) : Type 0 where
-  pub mac : List ℕ
-  pub kept : Contains entries (payment_entry payment.ksn payment.amount Approved mac)
-  pub not_undone : ¬ Contains (reversed_numbers entries) payment.ksn
-
--- a payment of a till stands: it does at the host, and the till owns its initial key serial number
+-- a payment of a till stands: it does at the host, with its amount, and the till owns its initial key
+-- serial number
 pub record StandsOf (entries : Entries) (owners : List Owner) (t : ℕ) (payment : Payment)
     : Type 0 where
   pub owned : IsOwner owners payment.ksn.iksn t
-  pub stands : StandsWith entries payment
+  pub stands : StandsWith entries payment.ksn payment.amount
 
 -- each payment that a till was told as approved stands, with its amount
 abbrev pub ToldStand : Entries → List Owner → List Sale → ℕ → Type 0

@@ -21,10 +21,12 @@ pub mod NoUsedKey
 pub mod Images
 pub mod OwnKeyOfRequests
 pub mod Agree
+pub mod Totals
 pub mod Came
 pub mod AcceptedOnce
 pub mod OwnKeyOfReplies
 pub mod Completed
 pub mod Told
 pub mod Calm
+pub mod StolenTill
 pub mod inner

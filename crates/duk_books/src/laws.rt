@@ -1,13 +1,18 @@
 //! The laws of tills and a host, each the contract of a function that does nothing: what holds of all
 //! that was new once and then moved on by events alone.
 
-ghost use Rattle.std.specs.Prelude.{◌≡◌, ℕ, All, List};
+ghost use Rattle.std.specs.Prelude.{◌≡◌, ℕ, All, List, Some};
 ghost use Rattle.duk_hsm.specs.Commands.{IsIssued};
 ghost use Rattle.duk_hsm.specs.Keys.{HsmKeys};
 ghost use Rattle.duk_journal.specs.DiskJournal.{DiskJournalOf, disk_journal_meaning};
+ghost use Rattle.duk_regs.specs.Registers.{RegisterSet};
 ghost use Rattle.duk_store.specs.SlotCell.{SlotCellOf, slot_cell_meaning};
 ghost use Rattle.duk_tdes.specs.Tdes.{IsTdesKey};
+ghost use Rattle.duk_term.specs.Body.{set_of_body};
 ghost use Rattle.duk_term.specs.Loading.{WrapsInitialKey};
+ghost use Rattle.duk_term.specs.declared.state.Pending.{Pending};
+ghost use Rattle.duk_term.specs.declared.state.State.{State};
+ghost use Rattle.duk_term.specs.declared.state.State.TheVariants.{Loaded};
 ghost use Rattle.duk_books.specs.AcceptedOnce.{AcceptedOnce, HaveOneReply, KeepsAccepted};
 ghost use Rattle.duk_books.specs.Agree.{BooksAgree};
 ghost use Rattle.duk_books.specs.Books.{BooksOf, meanings_of};
@@ -25,7 +30,9 @@ ghost use Rattle.duk_books.specs.OwnKeyOfRequests.{IsOwnKeySent};
 ghost use Rattle.duk_books.specs.Reached.{Reached};
 ghost use Rattle.duk_books.specs.Run.{Run};
 ghost use Rattle.duk_books.specs.Sent.{SentByOwners};
+ghost use Rattle.duk_books.specs.StolenTill.{HasImage, HasMemory, ShowsRegisters, StandAlike, TerminalsStandAlike, WaitsWithItsReplyKey};
 ghost use Rattle.duk_books.specs.Told.{HasWhatWasTold};
+ghost use Rattle.duk_books.specs.Totals.{TotalsAgree};
 ghost use Rattle.duk_books.specs.declared.event.End.{End};
 ghost use Rattle.duk_books.specs.declared.event.Event.{Event};
 ghost use Rattle.duk_books.specs.declared.outcome.Outcome.{Outcome};
@@ -39,6 +46,11 @@ use duk_store::{Cell, Disk, SlotCell};
 /// stands, but perhaps the one that is open, of which there is one at most; and of a till at rest
 /// those that stand are exactly those that it was told as approved.
 ///
+/// So the totals agree. Under each initial key serial number that a till owns, what stands, which is
+/// the total that a journal is shown with, is never less than what the till was told as approved.
+/// While the till runs, the two are equal, or what stands is more by the amount of the open purchase;
+/// and at rest they are equal.
+///
 /// The host keeps nothing that no till sent: each payment was asked for by a request of that number
 /// and amount, and each reversal by a reversal of that number, which names the one that is reversed.
 /// And a payment comes to the merchants' book exactly where an outcome tells its till that it is
@@ -46,12 +58,15 @@ use duk_store::{Cell, Disk, SlotCell};
 pub fn agreement<C: Cell, B: Cell, J: Journal, I: Issuer>()
     ensures agree { let m = meanings_of C.meaning B.meaning J.meaning I.decides in
         (books : BooksOf C B J I) → Reached m books → BooksAgree m books }
+    ensures totals { let m = meanings_of C.meaning B.meaning J.meaning I.decides in
+        (books : BooksOf C B J I) → Reached m books → TotalsAgree m books }
     ensures sent { let m = meanings_of C.meaning B.meaning J.meaning I.decides in
         (books : BooksOf C B J I) → Reached m books → KeepsWhatWasSent m books }
     ensures told { let m = meanings_of C.meaning B.meaning J.meaning I.decides in
         (old new : BooksOf C B J I) (outcomes : List Outcome) → Reached m old
         → CallLeads m old outcomes new → HasWhatWasTold old.sales outcomes new.sales }
 {
+    duk_journal::laws::totals();
     duk_till::laws::one_reading();
     duk_term::laws::requests::<C>();
     duk_term::laws::reversals::<C>();
@@ -68,10 +83,14 @@ pub fn agreement<C: Cell, B: Cell, J: Journal, I: Issuer>()
 
 /// So it is where all stand on disks: of each till both cells, and of the host its journal.
 pub fn agreement_on_disks<D: Disk, E: Disk, F: Disk, I: Issuer>()
-    ensures { let m = meanings_of (slot_cell_meaning D.meaning) (slot_cell_meaning E.meaning)
+    ensures agree { let m = meanings_of (slot_cell_meaning D.meaning) (slot_cell_meaning E.meaning)
         (disk_journal_meaning F.meaning) I.decides in
         (books : BooksOf (SlotCellOf D) (SlotCellOf E) (DiskJournalOf F) I)
         → Reached m books → BooksAgree m books }
+    ensures totals { let m = meanings_of (slot_cell_meaning D.meaning) (slot_cell_meaning E.meaning)
+        (disk_journal_meaning F.meaning) I.decides in
+        (books : BooksOf (SlotCellOf D) (SlotCellOf E) (DiskJournalOf F) I)
+        → Reached m books → TotalsAgree m books }
 {
     agreement::<SlotCell<D>, SlotCell<E>, DiskJournal<F>, I>();
 }
@@ -137,6 +156,44 @@ pub fn no_used_key<C: Cell, B: Cell, J: Journal, I: Issuer>()
     duk_reversal::laws::apart_from_payments();
     duk_tree::laws::frontier();
     duk_regs::laws::uniqueness();
+}
+
+/// What a till shows to whoever opens it. Its registers are determined by its initial key, its initial
+/// key serial number, its next counter and its past initial key serial numbers: nothing in them comes
+/// of a PIN, a PAN or an amount. Its images are those of such registers, and have no other byte. A
+/// terminal that waits for a reply also has that number and its reply key, and nothing else. Its book
+/// has a last purchase: a number, an amount, a state and a code.
+///
+/// The first three clauses compare two tills, of one world or of two: where they stand alike, they show
+/// the same, whatever was paid at each.
+pub fn stolen_till<C: Cell, B: Cell, J: Journal, I: Issuer>()
+    ensures registers { let m = meanings_of C.meaning B.meaning J.meaning I.decides in
+        (books others : BooksOf C B J I) (one other : RegisterSet)
+        → Reached m books → Reached m others
+        → ShowsRegisters m books.tills one → ShowsRegisters m others.tills other
+        → StandAlike books.host.keys others.host.keys one other → one ≡ other }
+    ensures images { let m = meanings_of C.meaning B.meaning J.meaning I.decides in
+        (books others : BooksOf C B J I) (one other : List ℕ)
+        → Reached m books → Reached m others
+        → HasImage m books.tills one → HasImage m others.tills other
+        → StandAlike books.host.keys others.host.keys (set_of_body one) (set_of_body other)
+        → one ≡ other }
+    ensures memory { let m = meanings_of C.meaning B.meaning J.meaning I.decides in
+        (books others : BooksOf C B J I) (one other : State)
+        → Reached m books → Reached m others
+        → HasMemory books.tills one → HasMemory others.tills other
+        → TerminalsStandAlike books.host.keys others.host.keys one other → one ≡ other }
+    ensures reply_key { let m = meanings_of C.meaning B.meaning J.meaning I.decides in
+        (books : BooksOf C B J I) (set : RegisterSet) (pending : Pending)
+        → Reached m books → HasMemory books.tills (Loaded set (Some pending))
+        → WaitsWithItsReplyKey books.host.keys set pending }
+    ensures book { let m = meanings_of C.meaning B.meaning J.meaning I.decides in
+        (books : BooksOf C B J I) → Reached m books → FindLast m books.tills }
+{
+    no_used_key::<C, B, J, I>();
+    duk_regs::laws::transactions();
+    duk_regs::laws::uniqueness();
+    duk_tree::laws::bits();
 }
 
 /// Each request and each reversal is made under the transaction key of its number, from the till's

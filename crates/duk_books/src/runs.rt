@@ -19,6 +19,7 @@ ghost use Rattle.duk_books.specs.Run.{IsRefusedMemory, IsRun, RunRefused};
 ghost use Rattle.duk_books.specs.Sent.{SentByOwners};
 ghost use Rattle.duk_books.specs.Step.{Step};
 ghost use Rattle.duk_books.specs.Told.{HasWhatWasTold};
+ghost use Rattle.duk_books.specs.Totals.{TotalsAgree};
 ghost use Rattle.duk_books.specs.inner.Run.{IsStepInto};
 
 use crate::books::Books;
@@ -50,7 +51,8 @@ pub enum RunFault {
 ///
 /// Whatever the events are and however the call ends, the merchants' book and that of the host agree:
 /// each payment that a till was told as approved stands at the host, with its amount; and once a till
-/// is at rest, no other payment of it does.
+/// is at rest, no other payment of it does. So the totals agree: at rest, what stands for an initial
+/// key serial number adds up to what its till was told as approved.
 ///
 /// No two requests or reversals use one number, and each is made under the till's own key for its
 /// number; and no till holds, or may find after a stop, the key of a used number or of an ancestor of
@@ -73,6 +75,10 @@ pub fn run<const N: usize, C: Cell, B: Cell, J: Journal, I: Issuer>(
         (meanings_of C.meaning B.meaning J.meaning I.decides)
         books.old events.now out.old.items out.new.items books.new) }
     ensures agree { BooksAgree
+        (meanings_of C.meaning B.meaning J.meaning I.decides) books.new }
+    // The total that stands for an initial key serial number is the total that its till, once at
+    // rest, was told as approved.
+    ensures totals { TotalsAgree
         (meanings_of C.meaning B.meaning J.meaning I.decides) books.new }
     // The host keeps nothing that no till sent.
     ensures sent { KeepsWhatWasSent

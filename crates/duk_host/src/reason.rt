@@ -11,7 +11,7 @@ use duk_tree::Ksn;
 
 /// Why a request is refused, in the order in which the reasons are tested.
 #[derive(Clone, Copy)]
-pub(crate) enum Reason {
+pub enum Reason {
     /// The bytes are no request.
     Malformed,
     /// No key set for its key serial number is held.

@@ -1,19 +1,16 @@
 //! The steps of a judgement, for a host that keeps what it accepted in another way than `Host`.
 
-ghost use Rattle.std.specs.Prelude.{◌≡◌, ◌↔◌, ℕ, [], List, Contains, IfOk, IfErr, OnOk};
+ghost use Rattle.std.specs.Prelude.{ℕ, [], IfOk, IfErr};
 ghost use Rattle.duk_frame.specs.Request.{IsRequest};
 ghost use Rattle.duk_frame.specs.declared.request.Request.{Request};
 ghost use Rattle.duk_hsm.specs.Keys.{HsmKeys};
 ghost use Rattle.duk_hsm.specs.TransactionKeys.{AreTransactionKeys};
 ghost use Rattle.duk_store.specs.Log.{Numbers};
-ghost use Rattle.duk_tree.specs.Serial.{Serial};
-ghost use Rattle.duk_host.specs.Judgement.{Decision, IsAcceptable, IsAuthentic, IsRefusalFor, OpensRequest, basis_with};
-ghost use Rattle.duk_host.specs.Used.{IsUsed};
+ghost use Rattle.duk_host.specs.Judgement.{Decision, IsAuthentic, IsRefusalFor, OpensRequest, basis_with};
 
-use crate::judge::{check_number, verified};
+use crate::judge::verified;
 use crate::payment::Payment;
 use crate::reason::Reason;
-use crate::used::UsedNumbers;
 use duk_frame::{Frame, mac_text, read_request};
 use duk_hsm::{HsmFault, Transaction};
 use duk_tree::Ksn;
@@ -49,26 +46,5 @@ pub fn authenticate_opened(
             transaction,
         }),
         Err(reason) => Err(reason.answer(request.ksn).frame),
-    }
-}
-
-/// Judges an authentic request that was never accepted before by its number and by the room for it:
-/// it may be accepted, or this is the frame of its refusal, whose reason is 5 or 6. So it is by each
-/// list that has the used numbers, however often each stands in it.
-pub fn admit(payment: &Payment, used: &UsedNumbers, room: u64) -> Result<(), Frame>
-    ensures acceptable { OnOk result ((keys : HsmKeys) (numbers : Numbers) (decides : Decision)
-        → IsAuthentic keys payment.now.request
-        → ((ksn : Serial) → Contains numbers ksn ↔ IsUsed used.now ksn)
-        → IsAcceptable (basis_with keys numbers [] room decides) payment.now.request) }
-    ensures refused { IfErr result (λ frame. (keys : HsmKeys) (numbers : Numbers)
-        → (decides : Decision) (bytes : List ℕ) → IsRequest bytes payment.now.request
-        → IsAuthentic keys payment.now.request
-        → ((ksn : Serial) → Contains numbers ksn ↔ IsUsed used.now ksn)
-        → IsRefusalFor (basis_with keys numbers [] room decides) bytes frame.items) }
-{
-    let ksn = payment.request.ksn;
-    match check_number(used, room, ksn) {
-        Ok(()) => Ok(()),
-        Err(reason) => Err(reason.answer(ksn).frame),
     }
 }

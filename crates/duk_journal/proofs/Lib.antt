@@ -6,5 +6,6 @@ mod JournalOnDisk
 mod KeptEntries
 mod MemoryJournalMeaning
 mod RecordsRead
+mod StandingPayments
 mod StepsInTurn
 mod WrittenBytes

@@ -1,6 +1,7 @@
 pub mod Entry
 pub mod RecordFormat
 pub mod Groups
+pub mod Standing
 pub mod CheckSum
 pub mod Journal
 pub mod DiskJournal

@@ -1,12 +1,14 @@
 //! Laws of journals, each the contract of a function that does nothing.
 
-ghost use Rattle.std.specs.Prelude.{◌≡◌, ◌<◌, ◌≤◌, ◌*◌, ◌^◌, ◌++◌, ◌∷◌, ℕ, List, [], All, drop};
+ghost use Rattle.std.specs.Prelude.{◌≡◌, ◌⊎◌, ◌↔◌, ◌<◌, ◌≤◌, ◌*◌, ◌^◌, ◌++◌, ◌∷◌, ℕ, List, [], All, Contains, IsTrue, drop};
 ghost use Rattle.duk_store.specs.MemoryDisk.{memory_disk_meaning, new_disk};
 ghost use Rattle.duk_store.specs.StoreState.{IsNew};
+ghost use Rattle.duk_tree.specs.Serial.{Serial};
 ghost use Rattle.duk_journal.specs.DiskJournal.{disk_journal_meaning, new_disk_journal};
 ghost use Rattle.duk_journal.specs.CheckSum.{check_sum_of};
 ghost use Rattle.duk_journal.specs.Entry.{AreFields, kind_of};
 ghost use Rattle.duk_journal.specs.Groups.{Entries, HasContents, KeepsEntries};
+ghost use Rattle.duk_journal.specs.Standing.{AddsAmount, StandsWith, is_reversed, reversed_numbers, standing_amount};
 ghost use Rattle.duk_journal.specs.declared.entry.Entry.{Entry};
 
 /// The bytes of a journal's disk keep one list of entries at most.
@@ -55,3 +57,15 @@ pub fn new_disk_journal()
 {
     duk_tree::laws::serials();
 }
+
+/// The totals of entries add up the payments that stand, each with its amount, and nothing else. A
+/// payment is undone where a reversal of its number is one of the entries.
+pub fn totals()
+    ensures reversed { (entries : Entries) (number : Serial)
+        → IsTrue (is_reversed entries number) ↔ Contains (reversed_numbers entries) number }
+    ensures stands { (entries : Entries) (number : Serial) (amount : ℕ)
+        → StandsWith entries number amount → AddsAmount entries number amount }
+    ensures nothing_else { (entries : Entries) (entry : Entry) → Contains entries entry
+        → (standing_amount entries entry ≡ 0)
+        ⊎ StandsWith entries entry.number (standing_amount entries entry) }
+{}

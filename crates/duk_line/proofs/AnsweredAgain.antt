@@ -8,13 +8,14 @@ use Rattle.duk_frame.specs.declared.request.Request.{Request}
 use Rattle.duk_host.specs.Judgement.{IsAuthentic, IsRefusalFor, IsReplyWith, JudgementBasis}
 use Rattle.duk_host.specs.Used.{IsUsed}
 use Rattle.duk_journal.specs.Groups.{Entries}
+use Rattle.duk_journal.specs.Standing.{UseNewNumbers, payment_entry, reversed_numbers, used_by}
 use Rattle.duk_journal.specs.declared.entry.Entry.{Entry}
 use Rattle.duk_reversal.specs.Reversal.{IsReversal}
 use Rattle.duk_reversal.specs.declared.reversal.Reversal.{Reversal}
 use Rattle.duk_reversal.specs.declared.state.ReversalState.{ReversalState}
 use Rattle.duk_tree.specs.Serial.{serial_bytes}
 use Rattle.duk_line.specs.Judgement.{IsAuthenticReversal, IsJudged, IsPaymentKept, IsReasonAgainst, IsReversalKept, IsReversalReplyWith, LineBasis, reason_number, reversal_entry, without_repeats}
-use Rattle.duk_line.specs.Latest.{UseNewNumbers, latest_entries, payment_entry, reversed_numbers, used_by}
+use Rattle.duk_line.specs.Latest.{latest_entries}
 use Rattle.duk_line.specs.declared.reason.Reason.{Reason}
 use Rattle.duk_line.specs.declared.reason.Reason.TheVariants as reason
 use Rattle.duk_line.proofs.Members.{own_used, reversed_used}

@@ -3,9 +3,9 @@ use Rattle.std.proofs.Common.{inl, inr, subst, sym}
 use Rattle.duk_host.specs.declared.fault.HostFault.TheVariants as fault
 use Rattle.duk_journal.specs.Groups.{Entries}
 use Rattle.duk_journal.specs.Journal.{JournalMeaning}
+use Rattle.duk_journal.specs.Standing.{UseNewNumbers}
 use Rattle.duk_store.specs.declared.fault.StoreFault.TheVariants.{Damaged}
 use Rattle.duk_line.specs.Check.{CheckRefused, IsChecked}
-use Rattle.duk_line.specs.Latest.{UseNewNumbers}
 use Rattle.duk_line.specs.Restart.{IsUsableJournal}
 use Rattle.duk_line.specs.declared.check.Checked.{Checked}
 

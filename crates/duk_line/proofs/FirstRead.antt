@@ -8,10 +8,11 @@ use Rattle.duk_host.specs.declared.fault.HostFault.{HostFault}
 use Rattle.duk_host.specs.declared.fault.HostFault.TheVariants as fault
 use Rattle.duk_journal.specs.Entry.{MayStandUnder}
 use Rattle.duk_journal.specs.Groups.{Entries}
+use Rattle.duk_journal.specs.Standing.{UseNewNumbers, numbers_in}
 use Rattle.duk_journal.specs.declared.entry.Entry.{Entry}
 use Rattle.duk_tree.specs.Path.{IsUsable}
 use Rattle.duk_line.specs.Host.{IndexOf}
-use Rattle.duk_line.specs.Latest.{UseNewNumbers, most_latest, numbers_in}
+use Rattle.duk_line.specs.Latest.{most_latest}
 use Rattle.duk_line.specs.inner.Index.{TakesNumbers}
 use Rattle.duk_line.specs.inner.Latest.{with_latest}
 use Rattle.duk_line.specs.inner.Reading.{IsIndexOfFirst, IsTakenSoFar, TakeRefused, TakesEntries}

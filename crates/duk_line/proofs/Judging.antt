@@ -1,8 +1,8 @@
 -- A frame that is judged by the index of some entries.
-use Rattle.std.proofs.Common.{◌≡◌, ◌<◌, ◌≤◌, ◌-◌, ◌+◌, ◌++◌, ◌∷◌, ℕ, zero, suc, List, [], Bool, true, false, Contains, Option, Some, None, inl, Result, Ok, Err, IfOk, IfSome, All, length, drop, take, get_or, map, refl, sym, ap, subst, ◌∙◌, append_assoc, arith, length-append, length-drop}
+use Rattle.std.proofs.Common.{◌≡◌, ◌<◌, ◌≤◌, ◌-◌, ◌+◌, ◌++◌, ◌∷◌, ℕ, zero, suc, List, [], Bool, true, false, Contains, Option, Some, None, Result, Ok, Err, IfSome, All, length, drop, take, get_or, map, refl, sym, ap, subst, ◌∙◌, append_assoc, arith, length-append, length-drop}
 use Rattle.std.specs.Bool.{MatchBool}
-use Rattle.std.specs.Option.{option_map, option_to_list}
-use Rattle.std.specs.Prelude.{IfNone, IsSome, OnErr}
+use Rattle.std.specs.Option.{option_to_list}
+use Rattle.std.specs.Prelude.{IfNone, OnErr}
 use Rattle.std.proofs.lemmas.List.{append-nil, drop-append-le, take_more}
 use Rattle.std.proofs.lemmas.List.Elements.{All-append, All-cons, All-nil}
 use Rattle.duk_host.specs.Judgement.{Decision}
@@ -10,30 +10,18 @@ use Rattle.duk_host.specs.Used.{IsUsed}
 use Rattle.duk_hsm.specs.Keys.{HsmKeys}
 use Rattle.duk_journal.specs.Entry.{MayStandUnder}
 use Rattle.duk_journal.specs.Groups.{Entries}
+use Rattle.duk_journal.specs.Standing.{used_by}
 use Rattle.duk_journal.specs.declared.entry.Entry.{Entry}
 use Rattle.duk_tree.specs.Path.{IsUsable}
 use Rattle.duk_line.specs.Host.{IndexOf, IsIndexOf}
 use Rattle.duk_line.specs.Judgement.{line_basis}
-use Rattle.duk_line.specs.Latest.{latest_entries, most_latest, used_by}
+use Rattle.duk_line.specs.Latest.{latest_entries, most_latest}
 use Rattle.duk_line.specs.inner.Index.{TakesNumbers}
-use Rattle.duk_line.specs.inner.Judged.{AreJudgedSoFar, JudgesFrame, JudgesFrames, SettlesBy}
+use Rattle.duk_line.specs.inner.Judged.{AreJudgedSoFar, JudgesFrame, JudgesFrames}
 use Rattle.duk_line.specs.inner.Latest.{with_latest}
 use Rattle.duk_line.proofs.InTurn.{joined}
 
--- what holds of a result's value implies
-pub if_ok : {T E : Type 0} {P Q : T → Type 0} (result : Result T E) → IfOk result P → ((value : T) → P value → Q value) → IfOk result Q
-if_ok (Ok value) holds so = so value holds
-if_ok (Err why) holds so = holds
-
--- what is said of each error implies
-pub if_err : {T E : Type 0} {P Q : Type 0} (result : Result T E) → OnErr result P → (P → Q) → OnErr result Q
-if_err (Ok value) holds so = tt
-if_err (Err why) holds so = so holds
-
 -- ---- one more entry
-
-latest_length : (entries : Entries) → length (latest_entries entries) ≡ length entries - (length entries - most_latest)
-latest_length entries = length-drop (length entries - most_latest) entries
 
 zero_add : (more : ℕ) → more ≡ 0 + more
 zero_add more = omega arith
@@ -86,10 +74,6 @@ judged_more keys decides capacity room frames frame old mid new answers answer a
       subst (λ entries. IsIndexOf entries new) (append_assoc entries added more) last.1,
     )
 
--- no frame is judged
-pub judged_none : (keys : HsmKeys) (decides : Decision) (capacity room : ℕ) (index : IndexOf) → JudgesFrames keys decides capacity room [] index index [] []
-judged_none keys decides capacity room index = λ entries is_index. (refl, subst (λ entries. IsIndexOf entries index) (sym (append-nil entries)) is_index)
-
 all_of : (P : Entry → Type 0) (one : Option Entry) → IfSome one P → All P (option_to_list one)
 all_of P None holds = All-nil P
 all_of P (Some entry) holds = All-cons P entry [] holds (All-nil P)
@@ -137,13 +121,3 @@ on_err P (Err error) is = is
 pub if_none : {T : Type 0} (P : Type 0) (found : Option T) → P → IfNone found P
 if_none P None is = is
 if_none P (Some thing) is = tt
-
--- there is what something is made of
-pub is_some_of : {A B : Type 0} (f : A → B) (found : Option A) → IsSome (option_map f found) → IsSome found
-is_some_of f None is = is
-is_some_of f (Some thing) is = refl
-
--- bytes that are settled change nothing
-pub settled_only : (keys : HsmKeys) (decides : Decision) (capacity room : ℕ) (bytes : List ℕ) (index : IndexOf) (frame : List ℕ) → SettlesBy keys index capacity room bytes frame → JudgesFrame keys decides capacity room bytes index index frame None
-settled_only keys decides capacity room bytes index frame settles = λ entries is_index.
-    (inl (settles entries decides is_index, refl), subst (λ entries. IsIndexOf entries index) (sym (append-nil entries)) is_index)

@@ -12,8 +12,9 @@ pub mod Indexed
 pub mod Judging
 pub mod NumbersOpened
 pub mod Drafts
-pub mod JudgingPayments
-pub mod JudgingReversals
+pub mod ReasonsAgainst
+pub mod Steps
+pub mod Settling
 pub mod Answering
 mod HostJudges
 pub mod Collecting

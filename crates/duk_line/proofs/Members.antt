@@ -5,11 +5,11 @@ use Rattle.std.proofs.lemmas.List.Quantifiers.{all_pairs_push}
 use Rattle.std.specs.Bool.{MatchBool}
 use Rattle.duk_host.specs.Used.{AreUsable, IsOneMore, IsUsed}
 use Rattle.duk_journal.specs.Groups.{Entries}
+use Rattle.duk_journal.specs.Standing.{numbers_in, reversed_in, reversed_numbers, used_by}
 use Rattle.duk_journal.specs.declared.entry.Entry.{Entry}
 use Rattle.duk_store.specs.Log.{Numbers}
 use Rattle.duk_tree.specs.Path.{IsUsable}
 use Rattle.duk_tree.specs.Serial.{Serial}
-use Rattle.duk_line.specs.Latest.{numbers_in, reversed_in, reversed_numbers, used_by}
 use Rattle.duk_line.specs.inner.Index.{IsListed}
 
 pub none_in : {A : Type 0} (thing : A) → ¬ Contains [] thing

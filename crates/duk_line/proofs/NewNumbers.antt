@@ -5,13 +5,13 @@ use Rattle.std.proofs.lemmas.List.Elements.{All-append, All-cons, All-nil, Conta
 use Rattle.std.proofs.lemmas.List.Quantifiers.{all_pairs_push}
 use Rattle.duk_journal.specs.Entry.{MayStandUnder, reversed_by}
 use Rattle.duk_journal.specs.Groups.{Entries}
+use Rattle.duk_journal.specs.Standing.{UseNewNumbers, numbers_in, used_by}
 use Rattle.duk_journal.specs.declared.entry.Entry.{Entry}
 use Rattle.duk_reversal.specs.Numbers.{AreNumbers, Numbers, Reverses}
 use Rattle.duk_tree.specs.Path.{IsUsable}
 use Rattle.duk_tree.specs.Serial.{Serial}
 use Rattle.duk_line.specs.Judged.{AreJudged}
 use Rattle.duk_line.specs.Judgement.{IsJudged, IsTaken, LineBasis, with_entries}
-use Rattle.duk_line.specs.Latest.{UseNewNumbers, numbers_in, used_by}
 use Rattle.duk_line.proofs.Members.{flat_in, flat_more, front_or, none_in, the_only}
 
 -- an entry that may be added to others

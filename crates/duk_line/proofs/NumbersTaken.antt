@@ -8,6 +8,7 @@ use Rattle.duk_frame.specs.declared.code.Code.TheVariants.{Approved, NoCard, Wro
 use Rattle.duk_host.specs.Used.{IsOneMore, IsUsed}
 use Rattle.duk_journal.specs.Entry.{MayStandUnder, reversed_by}
 use Rattle.duk_journal.specs.Groups.{Entries}
+use Rattle.duk_journal.specs.Standing.{HasApproved, numbers_in, payment_entry, reversed_in, reversed_numbers, used_by}
 use Rattle.duk_journal.specs.declared.entry.Decided.{Decided}
 use Rattle.duk_journal.specs.declared.entry.Decided.TheVariants.{Payment, Reversal}
 use Rattle.duk_journal.specs.declared.entry.Entry.{Entry}
@@ -17,7 +18,6 @@ use Rattle.duk_store.specs.Log.{Numbers}
 use Rattle.duk_tree.specs.Path.{IsUsable}
 use Rattle.duk_tree.specs.Serial.{Serial}
 use Rattle.duk_line.specs.Host.{HasSets, IndexOf, IsApproved}
-use Rattle.duk_line.specs.Latest.{HasApproved, numbers_in, payment_entry, reversed_in, reversed_numbers, used_by}
 use Rattle.duk_line.specs.declared.sets.NumberSets.{NumberSets}
 use Rattle.duk_line.specs.inner.Index.{IsListed, IsNoted, IsOneMoreWhere, IsReversalNoted, IsWider, TakesNumbers, TakesSets, index_with}
 use Rattle.duk_line.specs.inner.Latest.{entry_under}

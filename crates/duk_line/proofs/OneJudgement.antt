@@ -9,6 +9,7 @@ use Rattle.duk_frame.specs.declared.code.Code.{Code}
 use Rattle.duk_frame.specs.declared.request.Request.{Request}
 use Rattle.duk_host.specs.Judgement.{IsAccepted, IsAnswerTo, IsRefusalFor, JudgementBasis}
 use Rattle.duk_journal.specs.Groups.{Entries}
+use Rattle.duk_journal.specs.Standing.{UseNewNumbers}
 use Rattle.duk_journal.specs.declared.entry.Entry.{Entry}
 use Rattle.duk_reversal.specs.Reversal.{IsReversal}
 use Rattle.duk_reversal.specs.declared.reversal.Reversal.{Reversal}
@@ -17,7 +18,6 @@ use Rattle.duk_reversal.specs.declared.state.ReversalState.TheVariants.{NoneStan
 use Rattle.duk_tree.specs.Serial.{Serial, serial_bytes}
 use Rattle.duk_line.specs.Judged.{AreJudged}
 use Rattle.duk_line.specs.Judgement.{FindsState, IsAnsweredAgain, IsJudged, IsPaid, IsReasonAgainst, IsRefused, IsReversalAcceptable, IsReversalAnsweredAgain, IsReversalRefused, IsReversalReplyWith, IsReversed, LineBasis, ReversalFails, ReversalPasses, entry_of, reason_number, refusal_of, reversal_entry, with_entries, without_repeats}
-use Rattle.duk_line.specs.Latest.{UseNewNumbers}
 use Rattle.duk_line.specs.declared.reason.Reason.{Reason}
 use Rattle.duk_line.specs.declared.reason.Reason.TheVariants as reason
 use Rattle.duk_line.proofs.AnsweredAgain.{ReadingLaws, answered_again, reversed_again}

@@ -14,6 +14,7 @@ use Rattle.duk_hsm.specs.Commands.{IsTransactionKey}
 use Rattle.duk_hsm.specs.Keys.{HsmKeys, key_set_of}
 use Rattle.duk_journal.specs.Entry.{reversed_by}
 use Rattle.duk_journal.specs.Groups.{Entries}
+use Rattle.duk_journal.specs.Standing.{UseNewNumbers, payment_entry}
 use Rattle.duk_journal.specs.declared.entry.Decided.TheVariants.{Payment, Reversal}
 use Rattle.duk_journal.specs.declared.entry.Entry.{Entry}
 use Rattle.duk_reversal.specs.Authentic.{reversal_reply_of, reversal_reply_under}
@@ -25,7 +26,7 @@ use Rattle.duk_tree.specs.Derivation.{derived_key_of, response_key_of}
 use Rattle.duk_tree.specs.Serial.{IsSerial, Serial, prefix_of}
 use Rattle.duk_line.specs.Judged.{AreJudged, AreRepliesOf, AreReversalRepliesOf, IsReplyOf, IsReversalReplyOf, TellsReversal}
 use Rattle.duk_line.specs.Judgement.{IsJudged, IsReversalReplyWith, LineBasis, entry_of, reason_number, reversal_entry, with_entries, without_repeats}
-use Rattle.duk_line.specs.Latest.{UseNewNumbers, latest_entries, most_latest, payment_entry}
+use Rattle.duk_line.specs.Latest.{latest_entries, most_latest}
 use Rattle.duk_line.specs.declared.reason.Reason.{Reason}
 use Rattle.duk_line.specs.declared.reason.Reason.TheVariants as reason
 use Rattle.duk_line.proofs.Members.{front_or, none_in, the_one}

@@ -14,6 +14,7 @@ use Rattle.duk_journal.specs.Entry.{MayStandUnder}
 use Rattle.duk_journal.specs.CheckSum.{check_sum_of, with_entry}
 use Rattle.duk_journal.specs.Groups.{Entries}
 use Rattle.duk_journal.specs.Journal.{AreEntriesRead, IsReadStopped, JournalMeaning, EntriesUnread}
+use Rattle.duk_journal.specs.Standing.{payment_entry}
 use Rattle.duk_journal.specs.declared.check_sum.CheckSum.{CheckSum}
 use Rattle.duk_journal.specs.declared.entry.Entry.{Entry}
 use Rattle.duk_store.specs.Log.{Numbers}
@@ -22,7 +23,7 @@ use Rattle.duk_store.specs.declared.fault.StoreFault.{StoreFault}
 use Rattle.duk_store.specs.declared.fault.StoreFault.TheVariants as store_fault
 use Rattle.duk_tree.specs.Path.{IsUsable}
 use Rattle.duk_line.specs.Host.{HasSets, IndexOf}
-use Rattle.duk_line.specs.Latest.{most_latest, payment_entry}
+use Rattle.duk_line.specs.Latest.{most_latest}
 use Rattle.duk_line.specs.inner.Index.{IsListed}
 use Rattle.duk_line.specs.inner.Reading.{AreFirst, AreRead, IsReadSoFar, ReadRefused, TakeRefused, TakesEntries}
 use Rattle.duk_line.proofs.Indexed.{none_listed}

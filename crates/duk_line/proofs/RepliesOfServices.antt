@@ -5,12 +5,12 @@ use Rattle.std.proofs.lemmas.List.Elements.{Contains-append_cases, Contains-appe
 use Rattle.duk_host.specs.Lifetime.{AcceptsAlike}
 use Rattle.duk_hsm.specs.Keys.{HsmKeys}
 use Rattle.duk_journal.specs.Groups.{Entries}
+use Rattle.duk_journal.specs.Standing.{UseNewNumbers}
 use Rattle.duk_reversal.specs.Numbers.{Numbers}
 use Rattle.duk_reversal.specs.declared.state.ReversalState.{ReversalState}
 use Rattle.duk_tree.specs.Serial.{Serial}
 use Rattle.duk_line.specs.Judged.{AreJudged, AreRepliesOf, AreReversalRepliesOf, IsReplyOf, IsReversalReplyOf, TellWhatIsKept, TellsAlike}
 use Rattle.duk_line.specs.Judgement.{LineBasis}
-use Rattle.duk_line.specs.Latest.{UseNewNumbers}
 use Rattle.duk_line.proofs.LifetimeOfServices.{IsKeptUp}
 use Rattle.duk_line.proofs.Members.{none_in}
 

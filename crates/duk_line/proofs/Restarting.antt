@@ -8,13 +8,13 @@ use Rattle.duk_journal.specs.CheckSum.{check_sum_of}
 use Rattle.duk_journal.specs.Groups.{Entries}
 use Rattle.duk_journal.specs.declared.check_sum.CheckSum.{CheckSum}
 use Rattle.duk_journal.specs.Journal.{IsReadStopped, JournalMeaning, JournalRestarted, EntriesUnread}
+use Rattle.duk_journal.specs.Standing.{UseNewNumbers}
 use Rattle.duk_store.specs.Restart.{Restarted, RestartFailed}
 use Rattle.duk_store.specs.StoreState.{FindsOnly, Stays, Stops, StoreState}
 use Rattle.duk_store.specs.declared.fault.StoreFault.{StoreFault}
 use Rattle.duk_store.specs.declared.fault.StoreFault.TheVariants as store_fault
 use Rattle.duk_line.specs.Check.{CheckRefused, IsChecked}
 use Rattle.duk_line.specs.Host.{HostMeaning, HostOf, IndexOf, KeepsAlone}
-use Rattle.duk_line.specs.Latest.{UseNewNumbers}
 use Rattle.duk_line.specs.Restart.{HostRestartRefused, IsHostRestarted, PreservesEnds}
 use Rattle.duk_line.specs.inner.Host.{HoldsIndex}
 use Rattle.duk_line.specs.inner.Reading.{AreRead, ReadRefused}

@@ -6,6 +6,7 @@ use Rattle.duk_frame.specs.declared.code.Code.TheVariants.{Approved}
 use Rattle.duk_hsm.specs.Keys.{HsmKeys}
 use Rattle.duk_journal.specs.Entry.{reversed_by}
 use Rattle.duk_journal.specs.Groups.{Entries}
+use Rattle.duk_journal.specs.Standing.{HasApproved, Stands, payment_entry, reversed_in, reversed_numbers}
 use Rattle.duk_journal.specs.declared.entry.Decided.{Decided}
 use Rattle.duk_journal.specs.declared.entry.Decided.TheVariants.{Payment, Reversal}
 use Rattle.duk_journal.specs.declared.entry.Entry.{Entry}
@@ -15,7 +16,6 @@ use Rattle.duk_reversal.specs.declared.state.ReversalState.TheVariants.{NoneStan
 use Rattle.duk_tree.specs.Serial.{Serial}
 use Rattle.duk_line.specs.Judged.{AreJudged, IsAsTold, IsReversalReplyOf, TellWhatIsKept, TellsOf}
 use Rattle.duk_line.specs.Judgement.{FindsState, IsJudged, IsTaken, LineBasis, reversal_entry, with_entries}
-use Rattle.duk_line.specs.Latest.{HasApproved, Stands, payment_entry, reversed_in, reversed_numbers}
 use Rattle.duk_line.proofs.Members.{end_or, flat_in, flat_more, reversed_used, the_one}
 use Rattle.duk_line.proofs.NewNumbers.{not_of_used, reversed_is}
 use Rattle.duk_line.proofs.OneNumber.{no_payment}

@@ -5,13 +5,13 @@ use Rattle.duk_host.specs.declared.fault.HostFault.TheVariants as fault
 use Rattle.duk_hsm.specs.Keys.{HsmKeys}
 use Rattle.duk_journal.specs.Groups.{Entries}
 use Rattle.duk_journal.specs.Journal.{GroupAppendFailed, JournalMeaning}
+use Rattle.duk_journal.specs.Standing.{UseNewNumbers}
 use Rattle.duk_store.specs.StoreState.{PreservesNature, StoreState}
 use Rattle.duk_store.specs.declared.fault.StoreFault.{StoreFault}
 use Rattle.duk_store.specs.declared.fault.StoreFault.TheVariants as store
 use Rattle.duk_line.specs.Host.{HostMeaning, HostOf}
 use Rattle.duk_line.specs.Judged.{AreJudged}
 use Rattle.duk_line.specs.Judgement.{LineBasis}
-use Rattle.duk_line.specs.Latest.{UseNewNumbers}
 use Rattle.duk_line.specs.Lifetime.{IsService, IsServiceBroughtUp}
 use Rattle.duk_line.specs.Restart.{HostRestartRefused, IsUsableJournal}
 use Rattle.duk_line.proofs.LifetimeOfServices.{IsKeptUp, left_by_service}

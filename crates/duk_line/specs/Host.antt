@@ -5,11 +5,12 @@ use Rattle.duk_host.specs.Used.{IsUsed, Lists}
 use Rattle.duk_hsm.specs.Keys.{HsmKeys}
 use Rattle.duk_journal.specs.Groups.{Entries}
 use Rattle.duk_journal.specs.Journal.{JournalMeaning}
+use Rattle.duk_journal.specs.Standing.{HasApproved, UseNewNumbers, reversed_numbers, used_by}
 use Rattle.duk_store.specs.Log.{Numbers}
 use Rattle.duk_store.specs.StoreState.{FindsOnly}
 use Rattle.duk_tree.specs.Serial.{Serial}
 use Rattle.duk_line.specs.Judgement.{LineBasis, line_basis}
-use Rattle.duk_line.specs.Latest.{HasApproved, UseNewNumbers, latest_entries, reversed_numbers, used_by}
+use Rattle.duk_line.specs.Latest.{latest_entries}
 
 -- what a running host has in memory: the used numbers, those of them under which no approved payment
 -- is kept, and those that were reversed, each in any order; and the entries that can be answered

@@ -6,6 +6,7 @@ use Rattle.duk_host.specs.Judgement.{IsReplyWith}
 use Rattle.duk_hsm.specs.Keys.{HsmKeys}
 use Rattle.duk_journal.specs.Entry.{reversed_by}
 use Rattle.duk_journal.specs.Groups.{Entries}
+use Rattle.duk_journal.specs.Standing.{Stands, payment_entry}
 use Rattle.duk_journal.specs.declared.entry.Decided.{Decided}
 use Rattle.duk_journal.specs.declared.entry.Decided.TheVariants.{Payment, Reversal}
 use Rattle.duk_journal.specs.declared.entry.Entry.{Entry}
@@ -14,7 +15,6 @@ use Rattle.duk_reversal.specs.Reply.{IsReversalReply}
 use Rattle.duk_reversal.specs.declared.state.ReversalState.{ReversalState}
 use Rattle.duk_tree.specs.Serial.{Serial}
 use Rattle.duk_line.specs.Judgement.{FindsState, IsJudged, IsReversalReplyWith, LineBasis, reversal_entry, with_entries}
-use Rattle.duk_line.specs.Latest.{Stands, payment_entry}
 
 -- frames are judged in turn, each with the entries and the room that are left after those before
 -- it; these are the answers, and these entries are added

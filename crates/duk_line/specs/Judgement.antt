@@ -12,6 +12,7 @@ use Rattle.duk_hsm.specs.Commands.{IsRequestMac, IsTransactionKey}
 use Rattle.duk_hsm.specs.Keys.{HsmKeys, key_set_of}
 use Rattle.duk_io.specs.FirstFault.{IsFirst}
 use Rattle.duk_journal.specs.Groups.{Entries}
+use Rattle.duk_journal.specs.Standing.{HasApproved, payment_entry, reversed_numbers, used_by}
 use Rattle.duk_journal.specs.declared.entry.Decided.TheVariants.{Reversal}
 use Rattle.duk_journal.specs.declared.entry.Entry.{Entry}
 use Rattle.duk_reversal.specs.Authentic.{reversal_reply_under}
@@ -23,7 +24,7 @@ use Rattle.duk_reversal.specs.declared.state.ReversalState.TheVariants.{NoneStan
 use Rattle.duk_tree.specs.Derivation.{response_key_of}
 use Rattle.duk_tree.specs.Path.{IsUsable}
 use Rattle.duk_tree.specs.Serial.{Serial, prefix_of, serial_bytes}
-use Rattle.duk_line.specs.Latest.{HasApproved, latest_entries, payment_entry, reversed_numbers, used_by}
+use Rattle.duk_line.specs.Latest.{latest_entries}
 use Rattle.duk_line.specs.declared.reason.Reason.{Reason}
 use Rattle.duk_line.specs.declared.reason.Reason.TheVariants as reason
 
@@ -154,7 +155,7 @@ abbrev pub IsReasonAgainst : LineBasis → reversal_frame.Reversal → Reason �
 IsReasonAgainst basis reversal =
     IsFirst reason_number (ReversalPasses basis reversal) (ReversalFails basis reversal)
 
--- the frame of the refusal of a reversal that uses this number: as that of a request
+-- the frame of the refusal of what uses this number, a reversal or a request
 abbrev pub refusal_of : Serial → Reason → List ℕ
 refusal_of ksn why = framed (refusal_text (serial_bytes ksn) (reason_number why))
 

@@ -1,6 +1,7 @@
 pub mod Latest
 pub mod Judgement
 pub mod Judged
+pub mod Steps
 pub mod Host
 pub mod Restart
 pub mod Check

@@ -4,12 +4,12 @@ use Rattle.duk_host.specs.declared.fault.HostFault.{HostFault}
 use Rattle.duk_host.specs.declared.fault.HostFault.TheVariants as fault
 use Rattle.duk_journal.specs.Groups.{Entries}
 use Rattle.duk_journal.specs.Journal.{JournalMeaning, JournalRestarted}
+use Rattle.duk_journal.specs.Standing.{UseNewNumbers}
 use Rattle.duk_store.specs.Restart.{Restarted, RestartFailed}
 use Rattle.duk_store.specs.StoreState.{FindsWithin, StoreState}
 use Rattle.duk_store.specs.declared.fault.StoreFault.{StoreFault}
 use Rattle.duk_store.specs.declared.fault.StoreFault.TheVariants.{Damaged}
 use Rattle.duk_line.specs.Host.{HostMeaning, HostOf, JudgesBy}
-use Rattle.duk_line.specs.Latest.{UseNewNumbers}
 
 -- all but the journal and the index is as it was
 pub record PreservesEnds {J I : Type 0} (old new : HostOf J I) : Type 0 where

@@ -4,6 +4,7 @@ pub mod Draft
 pub mod Group
 pub mod Host
 pub mod Judged
+pub mod Steps
 pub mod Keep
 pub mod Reading
 pub mod Serve

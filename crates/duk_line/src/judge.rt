@@ -12,19 +12,18 @@ ghost use Rattle.duk_line.specs.Judgement.{room_for_payments};
 ghost use Rattle.duk_line.specs.inner.Draft.{AreDraftsUnder, IsDraftUnder, frame_of};
 ghost use Rattle.duk_line.specs.inner.Judged.{AreJudgedSoFar, IsNumberOf, JudgesFirst, JudgesFrame, JudgesFrames, MayBeAccepted, OpensBetween, OpensFrame};
 
+use crate::authentic::authenticate;
 use crate::draft::{Draft, complete};
 use crate::group::Group;
 use crate::index::Index;
 use crate::opening::open_frames;
-use crate::payment::judge_payment;
-use crate::reversal::judge_reversal;
+use crate::settle::{Room, settle};
 use arrayvec::ArrayVec;
 use duk_frame::Frame;
 use duk_group::WIDTH;
 use duk_host::Issuer;
 use duk_hsm::{Hsm, HsmFault, OpenedGroup, Transaction};
 use duk_journal::Entry;
-use duk_reversal::read_reversal;
 use std::alloc::AllocError;
 
 /// A frame that is judged: its answer, perhaps without its MAC, and the entry that is kept of it.
@@ -32,14 +31,6 @@ use std::alloc::AllocError;
 pub(crate) struct Judged {
     pub(crate) answer: Draft,
     pub(crate) added: Option<Entry>,
-}
-
-/// For how many more entries there is room, and for how many payments: the last of the room is for
-/// reversals.
-#[derive(Clone, Copy)]
-struct Room {
-    entries: u64,
-    payments: u64,
 }
 
 /// Judges frames in turn, each with the index and the room as the earlier ones leave them, and adds
@@ -224,8 +215,8 @@ fn room_after(kept: u64, room: u64, added: u64) -> Room
     Room { entries, payments }
 }
 
-/// Judges a frame, whose number was opened to this: as a reversal where it is one, and else as a
-/// request. Memory is refused only where there is no reason against it.
+/// Authenticates a frame, whose number was opened to this, settles it, and drafts its answer. Memory is
+/// refused only where there is no reason against it.
 fn judge_frame<I: Issuer>(
     opened: Result<Transaction, HsmFault>,
     issuer: &I,
@@ -253,8 +244,19 @@ fn judge_frame<I: Issuer>(
         → room.payments ≡ room_for_payments capacity room.entries
         → MayBeAccepted keys index.old capacity room.entries frame.now) }
 {
-    match read_reversal(frame) {
-        Some(reversal) => judge_reversal(opened, index, room.entries, &reversal),
-        None => judge_payment(opened, issuer, index, room.payments, frame),
-    }
+    duk_frame::laws::one_reading();
+    let authentic = match authenticate(opened, frame) {
+        Ok(authentic) => authentic,
+        Err(refusal) => {
+            return Ok(Judged {
+                answer: Draft::Whole(refusal),
+                added: None,
+            });
+        }
+    };
+    let settled = settle(index, room, issuer, &authentic)?;
+    Ok(Judged {
+        answer: settled.answer(),
+        added: settled.entry(),
+    })
 }

@@ -7,7 +7,7 @@ ghost use Rattle.duk_frame.specs.Request.{IsRequest};
 ghost use Rattle.duk_frame.specs.declared.answer.AnswerFrame.{AnswerFrame};
 ghost use Rattle.duk_frame.specs.declared.code.Code.{Code};
 ghost use Rattle.duk_frame.specs.declared.request.Request.{Request};
-ghost use Rattle.duk_host.specs.Judgement.{IsAuthentic, IsReplyWith};
+ghost use Rattle.duk_host.specs.Judgement.{Decision, IsAuthentic, IsReplyWith};
 ghost use Rattle.duk_host.specs.Lifetime.{AcceptsAlike};
 ghost use Rattle.duk_host.specs.Serve.{Supply};
 ghost use Rattle.duk_host.specs.declared.fault.HostFault.{HostFault};
@@ -16,6 +16,7 @@ ghost use Rattle.duk_hsm.specs.Keys.{HsmKeys};
 ghost use Rattle.duk_io.specs.Sink.{IsWritten};
 ghost use Rattle.duk_journal.specs.DiskJournal.{DiskJournalOf, disk_journal_meaning, new_disk_journal};
 ghost use Rattle.duk_journal.specs.Groups.{Entries};
+ghost use Rattle.duk_journal.specs.Standing.{Stands, UseNewNumbers, reversed_numbers, used_by};
 ghost use Rattle.duk_journal.specs.declared.entry.Entry.{Entry};
 ghost use Rattle.duk_reversal.specs.Numbers.{Numbers};
 ghost use Rattle.duk_reversal.specs.Reply.{IsReversalReply};
@@ -29,17 +30,19 @@ ghost use Rattle.duk_tree.specs.Serial.{Serial};
 ghost use Rattle.duk_line.specs.Check.{CheckRefused, IsChecked};
 ghost use Rattle.duk_line.specs.Host.{HostOf, host_meaning_of};
 ghost use Rattle.duk_line.specs.Judged.{AreJudged, AreRepliesOf, AreReversalRepliesOf, AreTwoGroups, IsAsTold, IsReplyOf, IsReversalReplyOf, TellWhatIsKept, TellsAlike, TellsReversal};
-ghost use Rattle.duk_line.specs.Judgement.{IsAuthenticReversal, IsJudged, IsPaymentKept, IsReversalKept, IsReversalReplyWith, LineBasis, with_entries};
-ghost use Rattle.duk_line.specs.Latest.{Stands, UseNewNumbers, latest_entries, reversed_numbers, used_by};
+ghost use Rattle.duk_line.specs.Judgement.{IsAuthenticReversal, IsJudged, IsPaymentKept, IsReversalKept, IsReversalReplyWith, LineBasis, line_basis, with_entries};
+ghost use Rattle.duk_line.specs.Latest.{latest_entries};
 ghost use Rattle.duk_line.specs.Lifetime.{AreWrittenTo, IsLifetime, IsMadeOver, IsService, all_answers};
 ghost use Rattle.duk_line.specs.Restart.{HostRestartRefused, IsHostRestarted, IsUsableJournal};
 ghost use Rattle.duk_line.specs.Serve.{IsReadToEnd, Service, ServiceFailed};
+ghost use Rattle.duk_line.specs.Steps.{IsAnswerOf, IsAsked, IsCodeFor, IsDismissed, IsSettledBy, added_by};
 ghost use Rattle.duk_line.specs.View.{HaveOneRing, host_view};
 ghost use Rattle.duk_line.specs.declared.check.Checked.{Checked};
 ghost use Rattle.duk_line.specs.declared.group.Group.TheInside as group;
 ghost use Rattle.duk_line.specs.declared.host.JournalHost.TheInside as host;
 ghost use Rattle.duk_line.specs.declared.index.Index.TheInside as index;
 ghost use Rattle.duk_line.specs.declared.index.Index.TheView as index_view;
+ghost use Rattle.duk_line.specs.declared.settlement.Settled.{Settled};
 ghost use Rattle.duk_line.specs.declared.workspace.Workspace.TheInside as workspace;
 
 use duk_host::Issuer;
@@ -59,6 +62,22 @@ pub fn grouping()
     ensures as_many { (basis : LineBasis) (frames answers : List (List ℕ)) (added : Entries)
         → AreJudged basis frames answers added → length answers ≡ length frames }
 {}
+
+/// A frame may be judged in three steps, whatever keeps the entries. What is authenticated by the
+/// keys, settled by the entries, and answered with what came of that, is judged so; and so is a frame
+/// that is refused whatever is kept.
+pub fn steps()
+    ensures dismissed { (keys : HsmKeys) (entries : Entries) (capacity room : ℕ)
+        → (decides : Decision) (bytes frame : List ℕ) → IsDismissed keys bytes frame
+        → IsJudged (line_basis keys entries capacity room decides) bytes frame [] }
+    ensures settled { (keys : HsmKeys) (entries : Entries) (capacity room : ℕ) (decides : Decision)
+        → (bytes frame : List ℕ) (settled : Settled) → IsAsked keys bytes settled
+        → IsSettledBy entries capacity room (IsCodeFor keys decides bytes) settled
+        → IsAnswerOf keys settled frame
+        → IsJudged (line_basis keys entries capacity room decides) bytes frame (added_by settled) }
+{
+    duk_frame::laws::one_reading();
+}
 
 /// Frames in turn add no entry whose own number was used before, by a payment, by a reversal or as
 /// a number that was reversed.

@@ -8,6 +8,7 @@
 //! many at a time. A restart reads the journal by large pieces.
 #![tactic(auto)]
 
+mod authentic;
 mod check;
 mod draft;
 mod group;
@@ -17,16 +18,18 @@ mod judge;
 mod latest;
 pub mod laws;
 mod opening;
-mod payment;
 mod reading;
 mod reason;
-mod reversal;
 mod service;
 mod sets;
+mod settle;
+mod settlement;
 mod workspace;
 
+pub use authentic::Purchase;
 pub use check::{Checked, check_journal};
 pub use group::{Group, MOST_FRAMES};
 pub use host::JournalHost;
 pub use service::serve;
+pub use settlement::{Settled, Settlement};
 pub use workspace::Workspace;

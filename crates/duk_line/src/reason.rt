@@ -1,4 +1,4 @@
-//! Why a reversal is refused.
+//! Why an authentic frame is refused, or a reversal that is not authentic.
 
 ghost use Rattle.std.specs.Prelude.{◌≡◌};
 ghost use Rattle.duk_line.specs.Judgement.{reason_number, refusal_of};
@@ -6,15 +6,15 @@ ghost use Rattle.duk_line.specs.Judgement.{reason_number, refusal_of};
 use duk_frame::{Frame, write_refusal};
 use duk_tree::Ksn;
 
-/// Why a reversal is refused, in the order in which the reasons are tested. Each has the number
-/// that a refusal of a request has for it.
+/// Why a frame is refused, in the order in which the reasons are tested. A request that is not
+/// authentic is refused by `duk_host`, with the same numbers.
 #[derive(Clone, Copy)]
 pub(crate) enum Reason {
     /// No key set for its key serial number is held.
     UnknownKeySet,
     /// Its counter numbers no transaction.
     BadCounter,
-    /// Its MAC is not that of the reversal.
+    /// Its MAC is another one.
     BadMac,
     /// Its number is used.
     Used,
@@ -36,7 +36,7 @@ impl Reason {
         }
     }
 
-    /// The refusal of a reversal that uses this number.
+    /// The refusal of what uses this number.
     pub(crate) fn answer(self, ksn: Ksn) -> Frame
         ensures { result.items ≡ refusal_of ksn self }
     {

@@ -19,8 +19,8 @@ use Rattle.duk_host.specs.Table.{CardTable, table_decision}
 use Rattle.duk_host.specs.declared.fault.HostFault.{HostFault}
 use Rattle.duk_host.specs.declared.fault.HostFault.TheVariants as host_fault
 use Rattle.duk_journal.specs.Journal.{JournalMeaning}
+use Rattle.duk_journal.specs.Standing.{UseNewNumbers}
 use Rattle.duk_line.specs.Host.{HostOf}
-use Rattle.duk_line.specs.Latest.{UseNewNumbers}
 use Rattle.duk_line.specs.Restart.{HostRestartRefused}
 use Rattle.duk_store.specs.Cell.{CellMeaning, Kept}
 use Rattle.duk_store.specs.Restart.{RestartFailed, Restarted}

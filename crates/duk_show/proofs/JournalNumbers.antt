@@ -7,11 +7,11 @@ use Rattle.std.proofs.lemmas.List.Quantifiers.{all_pairs_push}
 use Rattle.duk_host.specs.Used.{IsOneMore}
 use Rattle.duk_journal.specs.Entry.{MayStandUnder}
 use Rattle.duk_journal.specs.Groups.{Entries}
+use Rattle.duk_journal.specs.Standing.{UseNewNumbers, numbers_in, reversed_in, reversed_numbers, used_by}
 use Rattle.duk_journal.specs.declared.entry.Entry.{Entry}
 use Rattle.duk_store.specs.Log.{Numbers}
 use Rattle.duk_tree.specs.Path.{IsUsable}
 use Rattle.duk_tree.specs.Serial.{Serial}
-use Rattle.duk_show.specs.Standing.{UseNewNumbers, numbers_in, reversed_in, reversed_numbers, used_by}
 use Rattle.duk_show.specs.inner.Journal.{AddsAll, AreThose, AreUsedBy}
 
 pub none_in : {A : Type 0} (thing : A) → ¬ Contains [] thing

@@ -4,10 +4,10 @@ use Rattle.std.proofs.lemmas.Bool.{cases_lt}
 use Rattle.std.proofs.lemmas.List.{drop_all}
 use Rattle.duk_journal.specs.Groups.{AreClosedFrom, AreKeptFrom, Entries, HasContents}
 use Rattle.duk_journal.specs.RecordFormat.{IsOpen, contents_of, record_at}
+use Rattle.duk_journal.specs.Standing.{UseNewNumbers, used_by}
 use Rattle.duk_journal.specs.declared.entry.Entry.{Entry}
 use Rattle.duk_journal.specs.declared.record_format.Contents.{Contents}
 use Rattle.duk_show.specs.Journal.{BeginsJournal, GoesOn, IsCutRecord, IsJournal, IsJournalRefused, StandFrom}
-use Rattle.duk_show.specs.Standing.{UseNewNumbers, used_by}
 use Rattle.duk_show.specs.declared.fault.ShowFault.{ShowFault}
 use Rattle.duk_show.specs.declared.fault.ShowFault.TheVariants.{JournalRefused, OutOfMemory}
 use Rattle.duk_show.specs.inner.Journal.{AreClosedBetween, AreGroups, IsLeftAfter, IsNextIn, IsNotNew, IsOpenAt, IsRecordNotTaken, IsRecordTaken}

@@ -1,20 +1,20 @@
 -- The terminals of a journal's entries, as an index finds them.
-use Rattle.std.proofs.Common.{◌≡◌, ◌≤◌, ◌<◌, ◌+◌, ◌∷◌, ◌++◌, [], ◌||◌, inl, inr, ℕ, suc, Bool, true, false, cond, if◌then◌else◌, List, Option, None, Some, IfSome, is_some, length, flat_map, take, drop, get_or, add-one, drop-cons, refl, ap, sym, subst, ◌∙◌, append_assoc, length-append, nat_eq, arith}
+use Rattle.std.proofs.Common.{◌≡◌, ◌≤◌, ◌<◌, ◌+◌, ◌∷◌, ◌++◌, [], ◌||◌, inl, inr, ℕ, suc, Bool, true, false, true≢false, cond, if◌then◌else◌, List, Option, None, Some, IfSome, is_some, length, flat_map, take, drop, get_or, add-one, drop-cons, refl, ap, sym, subst, ◌∙◌, append_assoc, length-append, nat_eq, arith}
 use Rattle.std.proofs.lemmas.Bool.Decides.{eqb_tells}
 use Rattle.std.proofs.lemmas.Bool.{eq-eqb}
-use Rattle.std.proofs.lemmas.List.{append-nil, drop_all, take_more}
+use Rattle.std.proofs.lemmas.List.{append-nil, drop_all, take-append-drop, take_more}
 use Rattle.std.proofs.lemmas.List.Folds.{list_any-append}
 use Rattle.std.proofs.lemmas.List.Sums.{sum_by-cons}
 use Rattle.std.proofs.lemmas.Map.Keys.{IsDistinct-head, IsDistinct-tail}
-use Rattle.std.specs.List.{AllByRecursion, IsDistinct, count_by, filter, sum_by}
+use Rattle.std.specs.List.{AllByRecursion, IsDistinct, count_by, filter, list_any, sum_by}
 use Rattle.std.specs.Map.{keys_of, lookup, values_of}
 use Rattle.indexmap.specs.IndexMap.{insert_entry}
 use Rattle.duk_journal.specs.Groups.{Entries}
+use Rattle.duk_journal.specs.Standing.{is_by, is_payment, is_undone, standing_amount}
 use Rattle.duk_journal.specs.declared.entry.Entry.{Entry}
 use Rattle.duk_tree.specs.Serial.{Serial}
-use Rattle.duk_show.specs.Journal.{is_by, numbers_of, payer_if_first, payer_line_of, payer_lines, terminal_line}
+use Rattle.duk_show.specs.Journal.{numbers_of, payer_if_first, payer_line_of, payer_lines, terminal_line}
 use Rattle.duk_show.specs.Log.{last_after}
-use Rattle.duk_show.specs.Standing.{is_payment, is_undone, standing_amount}
 use Rattle.duk_show.specs.declared.journal_tallies.Payer.{Payer}
 use Rattle.duk_show.specs.declared.journal_tallies.Share.{Share}
 use Rattle.duk_show.specs.inner.JournalTallies.{ArePayers, IsSmall, IsWithin, line_with, next_payer, payer_line, share_of, with_own, with_share}
@@ -30,6 +30,34 @@ same_line first last p q a b u v payments approved undone =
 counts_more : (test : Entry → Bool) (entry : Entry) (more : Entries) → count_by test (entry ∷ more) ≡ cond (test entry) 1 0 + count_by test more
 counts_more test entry more = sum_by-cons (λ (e : Entry). cond (test e) 1 0) entry more
 
+-- the line of the terminal of an entry, whose own entries these are
+abbrev line_of : Entries → Entry → Entries → List ℕ
+line_of all first own =
+    terminal_line first.number (last_after first.number (numbers_of own)) (count_by is_payment own) (sum_by (standing_amount all) own) (count_by (is_undone all) own)
+
+-- the same, where its own entries stand among these
+abbrev line_from : Entries → Entry → Entries → List ℕ
+line_from all first entries = line_of all first (filter (is_by first.number.iksn) entries)
+
+-- behind entries of which none is of a terminal, all of its own stand
+fails_both : (one other : Bool) → (one || other) ≡ false → (one ≡ false) × (other ≡ false)
+fails_both true other none = absurd (true≢false none)
+fails_both false other none = (refl, none)
+
+own_behind : (iksn : ℕ) (before rest : Entries) → list_any (is_by iksn) before ≡ false → filter (is_by iksn) (before ++ rest) ≡ filter (is_by iksn) rest
+own_behind iksn [] rest none = refl
+own_behind iksn (entry ∷ before) rest none =
+    let own : Entries = filter (is_by iksn) (before ++ rest) in
+    let fails = fails_both (is_by iksn entry) (list_any (is_by iksn) before) none in
+    ap (λ (b : Bool). cond b (entry ∷ own) own) fails.0 ∙ own_behind iksn before rest fails.1
+
+-- so the line of a terminal from its first entry on is that among all
+line_among_all : (all before more : Entries) (entry : Entry) (seen : Bool) → all ≡ before ++ entry ∷ more → list_any (is_by entry.number.iksn) before ≡ seen
+    → (if seen then [] else line_from all entry (entry ∷ more)) ≡ (if seen then [] else payer_line_of all entry)
+line_among_all all before more entry true is seen = refl
+line_among_all all before more entry false is seen =
+    sym (ap (λ (own : Entries). line_of all entry own) (ap (filter (is_by entry.number.iksn)) is ∙ own_behind entry.number.iksn before (entry ∷ more) seen))
+
 module _ (all : Entries) where
   -- an entry of another terminal than these leaves their lines
   other_lines : (entry : Entry) (more : Entries) (known : List (ℕ × Payer)) → AllByRecursion (λ key. nat_eq entry.number.iksn key ≡ false) (keys_of known)
@@ -41,7 +69,7 @@ module _ (all : Entries) where
       ∙ ap (λ (lines : List ℕ). line_with all more one ++ lines) (other_lines entry more known none.1)
 
   -- the line of a terminal that an entry begins
-  new_line : (entry : Entry) (more : Entries) → line_with all more (entry.number.iksn, next_payer all None entry) ≡ payer_line_of all entry (entry ∷ more)
+  new_line : (entry : Entry) (more : Entries) → line_with all more (entry.number.iksn, next_payer all None entry) ≡ line_from all entry (entry ∷ more)
   new_line entry more =
       let own : Entries = filter (is_by entry.number.iksn) more in
       let last : Serial = last_after entry.number (numbers_of own) in
@@ -63,7 +91,7 @@ module _ (all : Entries) where
   -- an entry that is counted leaves the lines of the terminals that are known, and adds that of a new one
   counted : (entry : Entry) (more : Entries) (known : List (ℕ × Payer)) → IsDistinct nat_eq (keys_of known)
       → flat_map (line_with all more) (insert_entry nat_eq known entry.number.iksn (next_payer all (lookup (nat_eq entry.number.iksn) known) entry))
-      ≡ flat_map (line_with all (entry ∷ more)) known ++ (if is_some (lookup (nat_eq entry.number.iksn) known) then [] else payer_line_of all entry (entry ∷ more))
+      ≡ flat_map (line_with all (entry ∷ more)) known ++ (if is_some (lookup (nat_eq entry.number.iksn) known) then [] else line_from all entry (entry ∷ more))
   counted entry more [] distinct = append-nil (line_with all more (entry.number.iksn, next_payer all None entry)) ∙ new_line entry more
   counted entry more (one ∷ known) distinct =
       let own : Entries = filter (is_by one.0) more in
@@ -71,7 +99,7 @@ module _ (all : Entries) where
       let old : List ℕ = flat_map (line_with all (entry ∷ more)) known in
       let payer : Bool → Payer = λ b. next_payer all (cond b (Some one.1) others) entry in
       let P : Bool → Type 0 = λ b. flat_map (line_with all more) (if b then (one.0, payer b) ∷ known else one ∷ insert_entry nat_eq known entry.number.iksn (payer b))
-      ≡ (payer_line (with_own all one.1 (cond b (entry ∷ own) own)) ++ old) ++ (if is_some (cond b (Some one.1) others) then [] else payer_line_of all entry (entry ∷ more)) in
+      ≡ (payer_line (with_own all one.1 (cond b (entry ∷ own) own)) ++ old) ++ (if is_some (cond b (Some one.1) others) then [] else line_from all entry (entry ∷ more)) in
       elim (eqb_tells entry.number.iksn one.0) [
         | inl same ↦
             let none : AllByRecursion (λ key. nat_eq entry.number.iksn key ≡ false) (keys_of known) =
@@ -83,7 +111,7 @@ module _ (all : Entries) where
         | inr other ↦
             subst P (sym other.0)
             (ap (λ (lines : List ℕ). line_with all more one ++ lines) (counted entry more known (IsDistinct-tail nat_eq one.0 (keys_of known) distinct))
-            ∙ sym (append_assoc (line_with all more one) old (if is_some others then [] else payer_line_of all entry (entry ∷ more))))
+            ∙ sym (append_assoc (line_with all more one) old (if is_some others then [] else line_from all entry (entry ∷ more))))
       ]
 
 -- what the index has at a terminal after an entry
@@ -116,12 +144,12 @@ still_fits false payer (Some other) most now fits = record {
 }
 
 -- one entry more
-next : (before more all : Entries) (entry : Entry) (old new : List (ℕ × Payer)) → ArePayers before (entry ∷ more) all old
+next : (before more all : Entries) (entry : Entry) (old new : List (ℕ × Payer)) → all ≡ before ++ entry ∷ more → ArePayers before (entry ∷ more) all old
     → new ≡ insert_entry nat_eq old entry.number.iksn (next_payer all (lookup (nat_eq entry.number.iksn) old) entry)
     → ((iksn : ℕ) → lookup (nat_eq iksn) new ≡ cond (nat_eq entry.number.iksn iksn) (Some (next_payer all (lookup (nat_eq entry.number.iksn) old) entry)) (lookup (nat_eq iksn) old))
     → IsDistinct nat_eq (keys_of new) → IsSmall (share_of all entry)
     → ArePayers (before ++ entry ∷ []) more all new
-next before more all entry old new so_far inserted updates unique small =
+next before more all entry old new all_are so_far inserted updates unique small =
     let payer : Payer = next_payer all (lookup (nat_eq entry.number.iksn) old) entry in
     let after : Entries = before ++ entry ∷ [] in
     let rest : List ℕ = payer_lines all after more in
@@ -130,8 +158,9 @@ next before more all entry old new so_far inserted updates unique small =
     record {
       lines = ap (λ (es : List (ℕ × Payer)). flat_map (line_with all more) es ++ rest) inserted
           ∙ ap (λ (lines : List ℕ). lines ++ rest) (counted all entry more old so_far.unique)
-          ∙ ap (λ (b : Bool). (known ++ (if b then [] else payer_line_of all entry (entry ∷ more))) ++ rest) (so_far.seen entry.number.iksn)
-          ∙ append_assoc known (payer_if_first all before entry (entry ∷ more)) rest
+          ∙ ap (λ (b : Bool). (known ++ (if b then [] else line_from all entry (entry ∷ more))) ++ rest) (so_far.seen entry.number.iksn)
+          ∙ ap (λ (line : List ℕ). (known ++ line) ++ rest) (line_among_all all before more entry (list_any (is_by entry.number.iksn) before) all_are refl)
+          ∙ append_assoc known (payer_if_first all before entry) rest
           ∙ so_far.lines;
       seen = λ iksn.
           ap is_some (updates iksn)
@@ -162,7 +191,7 @@ in_turn entries place entry share old new inside is so_far share_is small insert
     drop-cons entries place entry inside ∙ ap (λ (n : Entry). n ∷ drop (suc place) entries) (sym is) ∙ ap (λ (n : ℕ). entry ∷ drop n entries) (sym (add-one place)) in
     let front : take (place + 1) entries ≡ before ++ entry ∷ [] = take_more entries place entry inside ∙ ap (λ (n : Entry). before ++ n ∷ []) (sym is) in
     subst (λ (front : Entries). ArePayers front more entries new) (sym front)
-    (next before more entries entry old new (subst (λ (rest : Entries). ArePayers before rest entries old) rest so_far)
+    (next before more entries entry old new (sym (take-append-drop place entries) ∙ ap (λ (rest : Entries). before ++ rest) rest) (subst (λ (rest : Entries). ArePayers before rest entries old) rest so_far)
     (inserted ∙ ap (λ (s : Share). insert_entry nat_eq old entry.number.iksn (with_share found entry.number s)) share_is)
     (λ iksn. updates iksn ∙ ap (λ (s : Share). cond (nat_eq entry.number.iksn iksn) (Some (with_share found entry.number s)) (lookup (nat_eq iksn) old)) share_is)
     unique (subst IsSmall share_is small))

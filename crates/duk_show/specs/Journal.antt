@@ -1,6 +1,6 @@
 -- What `show` prints of a journal, and where the reading of one stops (this project's
 -- own, over its format).
-use Rattle.std.specs.Prelude.{◌≡◌, ◌⊎◌, ◌<◌, ◌≤◌, ◌+◌, ◌-◌, ◌*◌, ◌/◌, ◌==◌, ⊤, if◌then◌else◌, ℕ, zero, suc, Bool, List, [], ◌∷◌, ◌++◌, codes, count_by, decimal, length, map, nat_eq, sum_by, Contains}
+use Rattle.std.specs.Prelude.{◌≡◌, ◌⊎◌, ◌<◌, ◌≤◌, ◌+◌, ◌-◌, ◌*◌, ◌/◌, ◌==◌, ⊤, if◌then◌else◌, ℕ, zero, suc, List, [], ◌∷◌, ◌++◌, codes, count_by, decimal, length, map, Contains}
 use Rattle.std.specs.List.{filter, list_any}
 use Rattle.hex.specs.Hex.{encode_upper}
 use Rattle.duk_commands.specs.Lines.{text_line}
@@ -8,6 +8,7 @@ use Rattle.duk_frame.specs.Code.{code_text}
 use Rattle.duk_journal.specs.Entry.{reversed_by}
 use Rattle.duk_journal.specs.Groups.{Entries, HasContents, KeepsEntries}
 use Rattle.duk_journal.specs.RecordFormat.{IsJournalSize, IsOpen, gate_of, record_at, record_length}
+use Rattle.duk_journal.specs.Standing.{UseNewNumbers, is_by, is_payment, is_undone, standing_total, used_by}
 use Rattle.duk_journal.specs.declared.entry.Decided.{Decided}
 use Rattle.duk_journal.specs.declared.entry.Decided.TheVariants.{Payment, Reversal}
 use Rattle.duk_journal.specs.declared.entry.Entry.{Entry}
@@ -15,7 +16,6 @@ use Rattle.duk_store.specs.Log.{Numbers}
 use Rattle.duk_tree.specs.Serial.{Serial, iksn_bytes, serial_bytes}
 use Rattle.duk_show.specs.Frame.{code_words, state_words}
 use Rattle.duk_show.specs.Log.{last_after}
-use Rattle.duk_show.specs.Standing.{UseNewNumbers, is_payment, is_undone, standing_amount, used_by}
 use Rattle.duk_show.specs.declared.fault.ShowFault.{ShowFault}
 use Rattle.duk_show.specs.declared.fault.ShowFault.TheVariants.{JournalRefused, OutOfMemory}
 
@@ -67,10 +67,6 @@ entry_lines bytes before place (entry ∷ later) =
     entry_line place (own_group bytes place before) entry
     ++ entry_lines bytes (own_group bytes place before) (place + 1) later
 
--- an entry of the terminal with this initial key serial number
-abbrev pub is_by : ℕ → Entry → Bool
-is_by iksn entry = nat_eq entry.number.iksn iksn
-
 -- how many payments are undone, if any
 abbrev pub undone_words : ℕ → List ℕ
 undone_words undone = if undone == 0 then [] else codes " undone " ++ decimal undone
@@ -85,25 +81,25 @@ terminal_line first last payments approved undone =
     ++ encode_upper (serial_bytes first) ++ codes " " ++ encode_upper (serial_bytes last)
     ++ codes " approved " ++ decimal approved ++ undone_words undone)
 
--- that of the terminal of an entry, where it is the first of these, among all that are kept
-abbrev pub payer_line_of : Entries → Entry → Entries → List ℕ
-payer_line_of all first entries =
-    let own = filter (is_by first.number.iksn) entries in
+-- that of the terminal whose first entry this is, among all that are kept
+abbrev pub payer_line_of : Entries → Entry → List ℕ
+payer_line_of all first =
+    let own = filter (is_by first.number.iksn) all in
     terminal_line first.number (last_after first.number (numbers_of own)) (count_by is_payment own)
-    (sum_by (standing_amount all) own) (count_by (is_undone all) own)
+    (standing_total all first.number.iksn) (count_by (is_undone all) own)
 
 -- the line of the terminal of an entry, where it is the first of that terminal: none before it is
 -- one
-abbrev pub payer_if_first : Entries → Entries → Entry → Entries → List ℕ
-payer_if_first all before entry from =
-    if list_any (is_by entry.number.iksn) before then [] else payer_line_of all entry from
+abbrev pub payer_if_first : Entries → Entries → Entry → List ℕ
+payer_if_first all before entry =
+    if list_any (is_by entry.number.iksn) before then [] else payer_line_of all entry
 
 -- the lines of the terminals of some entries, in the order of their first ones, after entries that
 -- came before
 abbrev pub payer_lines : Entries → Entries → Entries → List ℕ
 payer_lines all before [] = []
 payer_lines all before (entry ∷ more) =
-    payer_if_first all before entry (entry ∷ more) ++ payer_lines all (before ++ entry ∷ []) more
+    payer_if_first all before entry ++ payer_lines all (before ++ entry ∷ []) more
 
 -- the line of how many reversals are kept, where there are any
 abbrev pub reversals_line : ℕ → List ℕ

@@ -8,7 +8,6 @@ pub mod Block
 pub mod ImageFault
 pub mod Image
 pub mod Log
-pub mod Standing
 pub mod Journal
 pub mod ShownText
 pub mod inner

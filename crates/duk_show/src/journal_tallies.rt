@@ -1,8 +1,8 @@
 //! What a journal has of each terminal, found by its initial key serial number.
 
 ghost use Rattle.std.specs.Prelude.{◌≡◌, [], IfErr, IfOk, IfSome, OnOk, Some, flat_map, nat_eq};
+ghost use Rattle.duk_journal.specs.Standing.{reversed_numbers};
 ghost use Rattle.duk_show.specs.Journal.{payer_lines};
-ghost use Rattle.duk_show.specs.Standing.{reversed_numbers};
 ghost use Rattle.duk_show.specs.declared.fault.ShowFault.TheVariants.{OutOfMemory};
 ghost use Rattle.duk_show.specs.inner.Journal.{AreThose};
 ghost use Rattle.duk_show.specs.inner.JournalTallies.{HasRoom, IsSmall, payer_line, with_share};

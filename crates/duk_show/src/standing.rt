@@ -3,7 +3,7 @@
 ghost use Rattle.std.specs.Prelude.{◌≡◌, ◌≤◌, ◌<◌, ◌^◌, All, IfErr, IfOk, OnOk, cond, false, true};
 ghost use Rattle.duk_journal.specs.Entry.{MayStandUnder};
 ghost use Rattle.duk_journal.specs.Groups.{Entries};
-ghost use Rattle.duk_show.specs.Standing.{amount_approved, amount_if_approved, is_approval, is_paid, reversed_in, reversed_numbers, was_approved};
+ghost use Rattle.duk_journal.specs.Standing.{amount_approved, amount_if_approved, is_approval, is_paid, reversed_in, reversed_numbers, was_approved};
 ghost use Rattle.duk_show.specs.declared.fault.ShowFault.TheVariants.{OutOfMemory};
 ghost use Rattle.duk_show.specs.inner.Journal.{AddsAll, AreThose};
 ghost use Rattle.duk_show.specs.inner.JournalTallies.{IsSmall, share_if, share_of};
@@ -51,6 +51,7 @@ pub(crate) fn share_of(entry: &Entry, reversed: &UsedNumbers) -> Share
         → result ≡ share_of all entry.now }
     ensures small { IsSmall result }
 {
+    duk_journal::laws::totals();
     if reversed.contains(entry.number) {
         reversed_share(entry.decided)
     } else {

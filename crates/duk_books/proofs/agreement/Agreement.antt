@@ -5,10 +5,10 @@ use Rattle.duk_frame.specs.declared.code.Code.{Code}
 use Rattle.duk_frame.specs.declared.code.Code.TheVariants as code
 use Rattle.duk_journal.specs.Entry.{reversed_by}
 use Rattle.duk_journal.specs.Groups.{Entries}
+use Rattle.duk_journal.specs.Standing.{Stands, StandsWith, numbers_in, payment_entry, reversed_in, reversed_numbers}
 use Rattle.duk_journal.specs.declared.entry.Decided.{Decided}
 use Rattle.duk_journal.specs.declared.entry.Decided.TheVariants.{Payment as PaymentDecided, Reversal as ReversalDecided}
 use Rattle.duk_journal.specs.declared.entry.Entry.{Entry}
-use Rattle.duk_line.specs.Latest.{numbers_in, payment_entry, reversed_in, reversed_numbers}
 use Rattle.duk_store.specs.Cell.{Kept}
 use Rattle.duk_till.specs.Image.{last_bytes}
 use Rattle.duk_till.specs.Last.{number_of}
@@ -19,7 +19,7 @@ use Rattle.duk_till.specs.declared.last.Last.TheVariants.{Open, Approved, Declin
 use Rattle.duk_till.specs.declared.last.Payment.{Payment}
 use Rattle.duk_till.specs.declared.state.TillState.TheVariants.{Running}
 use Rattle.duk_tree.specs.Serial.{Serial}
-use Rattle.duk_books.specs.Agree.{Agrees, AreEntriesOf, BooksAgree, AreOfDifferentNumbers, IsInDoubt, StandingAreTold, StandsOf, StandsWith, ToldStand}
+use Rattle.duk_books.specs.Agree.{Agrees, AreEntriesOf, BooksAgree, AreOfDifferentNumbers, IsInDoubt, StandingAreTold, StandsOf, ToldStand}
 use Rattle.duk_books.specs.Books.{BooksOf, Frame, IsAt, Meanings}
 use Rattle.duk_books.specs.First.{IsFirst, IsNewTill}
 use Rattle.duk_books.specs.Reached.{Reached}
@@ -97,7 +97,7 @@ called_back requests entries ksn came has =
 -- ---- the books agree
 
 module _ {C B J I : Type 0} (m : Meanings C B J I) (books : BooksOf C B J I) (begun : List Serial) (holds : BooksHold m books begun) (entries : Entries) (hold : EntriesHold books.requests books.answers entries) where
-  told_stand : (t : ℕ) → ToldStand entries books.owners books.sales t
+  pub told_stand : (t : ℕ) → ToldStand entries books.owners books.sales t
   told_stand t payment sold =
       let good = holds.sold t payment.ksn payment.amount sold in
       let paid = hold.replied payment.ksn code.Approved good.replied in
@@ -106,37 +106,45 @@ module _ {C B J I : Type 0} (m : Meanings C B J I) (books : BooksOf C B J I) (be
       record {
         owned = good.awaited.owned;
         stands = record {
-          mac = paid.mac;
-          kept = subst (λ amount. Contains entries (payment_entry payment.ksn amount code.Approved paid.mac)) same paid.kept;
-          not_undone = λ has. good.awaited.not_back (called_back books.requests entries payment.ksn hold.came has);
+          stands = record {
+            approved = record { amount = paid.amount; mac = paid.mac; kept = paid.kept };
+            not_undone = λ has. good.awaited.not_back (called_back books.requests entries payment.ksn hold.came has);
+          };
+          amount_is = same;
         };
       }
 
-  declined_stands : (payment : Payment) (why : Code) → why ≢ code.Approved → IsRepliedTo books.answers payment.ksn why → ¬ StandsWith entries payment
-  declined_stands payment why other replied stands =
-      let paid = hold.replied payment.ksn why replied in
-      let one = payment_entry payment.ksn paid.amount why paid.mac in
-      let two = payment_entry payment.ksn payment.amount code.Approved stands.mac in
-      let same : one ≡ two = one_entry entries one two hold.new_numbers.new paid.kept stands.kept refl in
-      other (same_decided paid.amount payment.amount why code.Approved (ap (λ (entry : Entry). entry.decided) same))
+  declined_stands : (ksn : Serial) (why : Code) → why ≢ code.Approved → IsRepliedTo books.answers ksn why → ¬ Stands entries ksn
+  declined_stands ksn why other replied stands =
+      let paid = hold.replied ksn why replied in
+      let has = stands.approved in
+      let one = payment_entry ksn paid.amount why paid.mac in
+      let two = payment_entry ksn has.amount code.Approved has.mac in
+      let same : one ≡ two = one_entry entries one two hold.new_numbers.new paid.kept has.kept refl in
+      other (same_decided paid.amount has.amount why code.Approved (ap (λ (entry : Entry). entry.decided) same))
+
+  -- a payment that stands was asked for
+  pub asked_for : (ksn : Serial) (amount : ℕ) → StandsWith entries ksn amount → IsAsked books.requests ksn amount
+  asked_for ksn amount is =
+      let has = is.stands.approved in
+      subst (λ sum. IsAsked books.requests ksn sum) is.amount_is (hold.came (payment_entry ksn has.amount code.Approved has.mac) has.kept)
 
   -- a payment that stands was told, or is in doubt
   told_or_doubted : (t : ℕ) (till : TillOf C B) (payment : Payment) → IsAt books.tills t till → StandsOf entries books.owners t payment
       → Contains books.sales (sale_of t payment) ⊎ IsDoubted m.book payment.ksn payment.amount till
   told_or_doubted t till payment at is =
-      let asked : IsAsked books.requests payment.ksn payment.amount = hold.came (payment_entry payment.ksn payment.amount code.Approved is.stands.mac) is.stands.kept in
-      elim ((holds.tills t till at).known payment.ksn payment.amount asked is.owned) [
+      elim ((holds.tills t till at).known payment.ksn payment.amount (asked_for payment.ksn payment.amount is.stands) is.owned) [
         | inl settled ↦ elim settled [
           | inl sold ↦ inl sold
           | inr known ↦ elim known [
-            | inl declined ↦ absurd (declined_stands payment declined.0 declined.1 declined.2 is.stands)
-            | inr undone ↦ absurd (is.stands.not_undone (hold.undone payment.ksn undone))
+            | inl declined ↦ absurd (declined_stands payment.ksn declined.0 declined.1 declined.2 is.stands.stands)
+            | inr undone ↦ absurd (is.stands.stands.not_undone (hold.undone payment.ksn undone))
           ]
         ]
         | inr doubt ↦ inr doubt
       ]
 
-  standing_told : (t : ℕ) (till : TillOf C B) (last : Option Last) → IsAt books.tills t till → till.state ≡ Running last → StandingAreTold entries books.owners books.sales t last
+  pub standing_told : (t : ℕ) (till : TillOf C B) (last : Option Last) → IsAt books.tills t till → till.state ≡ Running last → StandingAreTold entries books.owners books.sales t last
   standing_told t till last at runs payment is = elim (told_or_doubted t till payment at is) [
     | inl sold ↦ inl sold
     | inr doubt ↦ inr (doubt.runs last runs)
@@ -158,12 +166,11 @@ module _ {C B J I : Type 0} (m : Meanings C B J I) (books : BooksOf C B J I) (be
       → IsInDoubt entries books.owners books.sales t one → IsInDoubt entries books.owners books.sales t other → one ≡ other
   one_in_doubt reading t till kept one other at found is also =
       let number = one_number reading kept one other ((doubted t till one at is).found kept found) ((doubted t till other at also).found kept found) in
-      let asked : IsAsked books.requests one.ksn one.amount = hold.came (payment_entry one.ksn one.amount code.Approved is.stands.stands.mac) is.stands.stands.kept in
-      let asked_too : IsAsked books.requests other.ksn other.amount = hold.came (payment_entry other.ksn other.amount code.Approved also.stands.stands.mac) also.stands.stands.kept in
-      let amount : one.amount ≡ other.amount = holds.one_amount other.ksn one.amount other.amount (subst (λ (it : Serial). IsAsked books.requests it one.amount) number asked) asked_too in
+      let asked = asked_for one.ksn one.amount is.stands.stands in
+      let amount : one.amount ≡ other.amount = holds.one_amount other.ksn one.amount other.amount (subst (λ (it : Serial). IsAsked books.requests it one.amount) number asked) (asked_for other.ksn other.amount also.stands.stands) in
       ap (λ (it : Serial). payment_of it one.amount) number ∙ ap (λ sum. payment_of other.ksn sum) amount
 
-  agrees : (t : ℕ) (till : TillOf C B) → IsAt books.tills t till → IsAtRest till.state → Agrees entries books.owners books.sales t
+  pub agrees : (t : ℕ) (till : TillOf C B) → IsAt books.tills t till → IsAtRest till.state → Agrees entries books.owners books.sales t
   agrees t till at rest = record {
     told_stand = told_stand t;
     standing_told = λ payment is. elim (standing_told t till rest.last at rest.runs payment is) [
@@ -172,7 +179,7 @@ module _ {C B J I : Type 0} (m : Meanings C B J I) (books : BooksOf C B J I) (be
     ];
   }
 
-entries_hold : {C B J I : Type 0} (m : Meanings C B J I) (books : BooksOf C B J I) (begun : List Serial) (entries : Entries) → BooksHold m books begun → AreEntriesOf m books entries → EntriesHold books.requests books.answers entries
+pub entries_hold : {C B J I : Type 0} (m : Meanings C B J I) (books : BooksOf C B J I) (begun : List Serial) (entries : Entries) → BooksHold m books begun → AreEntriesOf m books entries → EntriesHold books.requests books.answers entries
 entries_hold m books begun entries holds (inl judges) = judged_finds m.host (EntriesHold books.requests books.answers) books.host entries holds.host judges
 entries_hold m books begun entries holds (inr found) = holds.host.entries entries found
 

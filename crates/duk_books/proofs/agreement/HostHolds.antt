@@ -12,6 +12,7 @@ use Rattle.duk_host.specs.declared.fault.HostFault.{HostFault}
 use Rattle.duk_hsm.specs.Keys.{HsmKeys}
 use Rattle.duk_journal.specs.Entry.{reversed_by}
 use Rattle.duk_journal.specs.Groups.{Entries}
+use Rattle.duk_journal.specs.Standing.{UseNewNumbers, payment_entry, reversed_in, reversed_numbers}
 use Rattle.duk_journal.specs.declared.entry.Decided.{Decided}
 use Rattle.duk_journal.specs.declared.entry.Decided.TheVariants.{Payment, Reversal}
 use Rattle.duk_journal.specs.declared.entry.Entry.{Entry}
@@ -19,7 +20,6 @@ use Rattle.duk_line.specs.Group.{AnswersFrames, GroupRefused}
 use Rattle.duk_line.specs.Host.{HostMeaning, HostOf, JudgesBy, basis_of}
 use Rattle.duk_line.specs.Judged.{AreJudged, AreRepliesOf, AreReversalRepliesOf, IsReplyOf, IsReversalReplyOf}
 use Rattle.duk_line.specs.Judgement.{IsJudged, LineBasis, with_entries}
-use Rattle.duk_line.specs.Latest.{UseNewNumbers, payment_entry, reversed_in, reversed_numbers}
 use Rattle.duk_reversal.specs.Numbers.{AreNumbers, Numbers}
 use Rattle.duk_reversal.specs.Reply.{IsReversalReply}
 use Rattle.duk_reversal.specs.Reversal.{IsReversal}

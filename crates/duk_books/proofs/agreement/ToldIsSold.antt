@@ -31,7 +31,7 @@ use Rattle.duk_books.specs.Restart.{RestartsHost, TakesRestart}
 use Rattle.duk_books.specs.Reverse.{Reverses}
 use Rattle.duk_books.specs.Sales.{EntersSale, TakesSale, sale_of}
 use Rattle.duk_books.specs.Step.{Step}
-use Rattle.duk_books.specs.Told.{HasWhatWasTold, IsSoldUnder, IsToldApproved, TellsApproved}
+use Rattle.duk_books.specs.Told.{HasWhatWasTold, IsSoldUnder, IsToldApproved, TellsApproved, TellsPayment}
 use Rattle.duk_books.specs.Up.{ReachesHost}
 use Rattle.duk_books.specs.declared.event.End.{End}
 use Rattle.duk_books.specs.declared.event.End.TheVariants as end
@@ -50,11 +50,17 @@ use Rattle.duk_books.proofs.moves.CallsLead.{leads_all}
 -- ---- what an outcome tells of one till
 
 -- whenever the till has a payment as approved, the outcome tells so, or the till had it before; and
--- what the outcome tells, the till has
+-- what the outcome tells, the till has, with the amount that it tells
 record TellsTill {C B : Type 0} (outcome : Outcome) (t : ℕ) (before after : TillOf C B) : Type 0 where
   accounts : (ksn : Serial) (amount : ℕ) → after.state ≡ Running (Some (Approved ksn amount))
       → TellsApproved outcome t ksn ⊎ (before.state ≡ Running (Some (Approved ksn amount)))
   shows : (u : ℕ) (ksn : Serial) → TellsApproved outcome u ksn → (u ≡ t) × ((amount : ℕ) × (after.state ≡ Running (Some (Approved ksn amount))))
+  amount_is : (u : ℕ) (payment : Payment) → TellsPayment outcome u payment → after.state ≡ Running (Some (Approved payment.ksn payment.amount))
+
+-- who is told a payment is told that its number is approved
+tells_number : (outcome : Outcome) (t : ℕ) (payment : Payment) → TellsPayment outcome t payment → TellsApproved outcome t payment.ksn
+tells_number (came.TillNext u next state) t payment tells = (tells.0, (payment.amount, tells.1))
+tells_number _ t payment tells = absurd tells
 
 stopped_has_none : (state : TillState) (ksn : Serial) (amount : ℕ) → state ≡ Stopped → state ≡ Running (Some (Approved ksn amount)) → ⊥
 stopped_has_none state ksn amount stopped has = absurd (cc)
@@ -68,18 +74,21 @@ module _ {C B : Type 0} (outcome : Outcome) (t : ℕ) (before after : TillOf C B
   as_before same = record {
     accounts = λ ksn amount has. inr (ap (λ (it : TillOf C B). it.state) (sym same) ∙ has);
     shows = λ u ksn tells. absurd (silent u ksn tells);
+    amount_is = λ u payment tells. absurd (silent u payment.ksn (tells_number outcome u payment tells));
   }
 
   when_stopped : after.state ≡ Stopped → TellsTill outcome t before after
   when_stopped stopped = record {
     accounts = λ ksn amount has. absurd (stopped_has_none after.state ksn amount stopped has);
     shows = λ u ksn tells. absurd (silent u ksn tells);
+    amount_is = λ u payment tells. absurd (silent u payment.ksn (tells_number outcome u payment tells));
   }
 
   when_undone : (reversed : Serial) → after.state ≡ Running (Some (Undone reversed)) → TellsTill outcome t before after
   when_undone reversed undone = record {
     accounts = λ ksn amount has. absurd (undone_has_none after.state ksn reversed amount undone has);
     shows = λ u ksn tells. absurd (silent u ksn tells);
+    amount_is = λ u payment tells. absurd (silent u payment.ksn (tells_number outcome u payment tells));
   }
 
 -- the outcome of a purchase is an approval where its code is that
@@ -132,6 +141,7 @@ module _ {C B : Type 0} (one_answer : (bytes : List ℕ) (one other : AnswerFram
                 ∙ ap (λ (it : Serial). Running (Some (Approved it kept.amount))) (sym number ∙ tells.1),
           ),
         );
+        amount_is = λ v payment tells. absurd tells;
       }
   by_reply frame (came.GotRefusal u ksn reason) before after is = as_before _ t before after (λ v used tells. tells) is.2.same
   by_reply frame (came.TillFaulted u why) before after is = reply_refused u frame.items why before after is.1
@@ -151,6 +161,7 @@ module _ {C B : Type 0} (one_answer : (bytes : List ℕ) (one other : AnswerFram
   by_restart (came.TillNext u next state) before after is = record {
     accounts = λ ksn amount has. inl (is.0, (amount, is.2.1 ∙ has));
     shows = λ v ksn tells. (sym tells.0 ∙ is.0, (tells.1.0, sym is.2.1 ∙ tells.1.1));
+    amount_is = λ v payment tells. sym is.2.1 ∙ tells.1;
   }
   by_restart (came.TillFaulted u why) before after is = restart_refused u why before after is.1
   by_restart _ before after is = absurd is
@@ -190,6 +201,10 @@ told_one t old new outcome before after tells takes entered = record {
         ksn_is = refl;
         stands = subst (λ n. Contains new (sale_of n (payment_of ksn shown.1.0))) (sym shown.0) (approved_entered t old new after.state ksn shown.1.0 takes shown.1.1);
       };
+  told_amount = λ u payment told.
+      let says = subst (λ (it : Outcome). TellsPayment it u payment) (the_only outcome told.outcome told.came) told.tells in
+      let shown = tells.shows u payment.ksn (tells_number outcome u payment says) in
+      subst (λ n. Contains new (sale_of n payment)) (sym shown.0) (approved_entered t old new after.state payment.ksn payment.amount takes (tells.amount_is u payment says));
   only = λ sale is_in. elim (new_is_approved t old new after.state sale takes is_in) [
     | inl before_it ↦ inl before_it
     | inr has ↦ elim (tells.accounts sale.payment.ksn sale.payment.amount has.1) [
@@ -204,6 +219,8 @@ told_none : (old new : List Sale) (outcome : Outcome) → ((u : ℕ) (ksn : Seri
 told_none old new outcome silent same = record {
   stays = λ sale is_in. subst (λ sales. Contains sales sale) (sym same) is_in;
   told = λ u ksn told. absurd (silent u ksn (subst (λ (it : Outcome). TellsApproved it u ksn) (the_only outcome told.outcome told.came) told.tells));
+  told_amount = λ u payment told.
+      absurd (silent u payment.ksn (tells_number outcome u payment (subst (λ (it : Outcome). TellsPayment it u payment) (the_only outcome told.outcome told.came) told.tells)));
   only = λ sale is_in. inl (subst (λ sales. Contains sales sale) same is_in);
 }
 
@@ -307,6 +324,10 @@ told_more first old new outcomes outcome before after = record {
         record { payment = sold.payment; ksn_is = sold.ksn_is; stands = after.stays (sale_of t sold.payment) sold.stands }
     | inr now ↦ after.told t ksn (record { outcome = told.outcome; came = now; tells = told.tells })
   ];
+  told_amount = λ t payment told. elim (Contains-append_cases outcomes (outcome ∷ []) told.outcome told.came) [
+    | inl earlier ↦ after.stays (sale_of t payment) (before.told_amount t payment (record { outcome = told.outcome; came = earlier; tells = told.tells }))
+    | inr now ↦ after.told_amount t payment (record { outcome = told.outcome; came = now; tells = told.tells })
+  ];
   only = λ sale is_in. elim (after.only sale is_in) [
     | inl there ↦ elim (before.only sale there) [
       | inl at_first ↦ inl at_first
@@ -320,6 +341,7 @@ nothing_told : (sales : List Sale) → HasWhatWasTold sales [] sales
 nothing_told sales = record {
   stays = λ sale is_in. is_in;
   told = λ t ksn told. absurd (none_in told.outcome told.came);
+  told_amount = λ t payment told. absurd (none_in told.outcome told.came);
   only = λ sale is_in. inl is_in;
 }
 

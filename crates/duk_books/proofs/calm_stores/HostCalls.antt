@@ -3,9 +3,9 @@
 use Rattle.std.proofs.Common.{◌∷◌, [], ℕ, List, inl, inr}
 use Rattle.duk_host.specs.declared.fault.HostFault.{HostFault}
 use Rattle.duk_host.specs.declared.fault.HostFault.TheVariants as host_fault
+use Rattle.duk_journal.specs.Standing.{UseNewNumbers}
 use Rattle.duk_line.specs.Group.{GroupRefused, IsGroupNotKept}
 use Rattle.duk_line.specs.Host.{HostMeaning, HostOf}
-use Rattle.duk_line.specs.Latest.{UseNewNumbers}
 use Rattle.duk_line.specs.Restart.{HostRestartRefused}
 use Rattle.duk_store.specs.declared.fault.StoreFault.{StoreFault}
 use Rattle.duk_books.specs.Calm.{IsJournalFault}

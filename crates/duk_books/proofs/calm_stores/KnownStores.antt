@@ -2,7 +2,7 @@
 -- it is to find.
 use Rattle.std.proofs.Common.{ℕ, Some}
 use Rattle.std.proofs.lemmas.List.Elements.{All-contains}
-use Rattle.duk_line.specs.Latest.{UseNewNumbers}
+use Rattle.duk_journal.specs.Standing.{UseNewNumbers}
 use Rattle.duk_till.specs.Till.{TillOf}
 use Rattle.duk_books.specs.Books.{BooksOf, IsAt, Meanings}
 use Rattle.duk_books.specs.Images.{FindLast, FindsLast}

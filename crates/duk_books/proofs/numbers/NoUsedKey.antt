@@ -70,7 +70,7 @@ path_above_zero counter [] is some = grind (arith, some)
 path_above_zero counter (place ∷ parent) is some = let above = pow_pos place in omega (arith, is, above)
 
 -- a counter that is usable or spent is from one to spent
-counter_fits : (counter : ℕ) → UsableFits → IsUsable counter ⊎ (counter ≡ spent_counter) → (1 ≤ counter) × (counter ≤ 2 ^ 21)
+pub counter_fits : (counter : ℕ) → UsableFits → IsUsable counter ⊎ (counter ≡ spent_counter) → (1 ≤ counter) × (counter ≤ 2 ^ 21)
 counter_fits counter fits (inl usable) = let below = (fits counter usable).0 in (path_above_zero counter usable.path usable.value_is usable.not_the_root, omega (arith, below))
 counter_fits counter fits (inr spent) = (omega (arith, spent), omega (arith, spent))
 

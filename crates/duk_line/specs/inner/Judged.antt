@@ -4,7 +4,7 @@ use Rattle.std.specs.Option.{option_to_list}
 use Rattle.duk_frame.specs.declared.code.Code.{Code}
 use Rattle.duk_frame.specs.Request.{IsRequest}
 use Rattle.duk_frame.specs.declared.request.Request.{Request}
-use Rattle.duk_host.specs.Judgement.{Decision, IsAcceptable, IsOpenedTo, OpensRequest, basis_with}
+use Rattle.duk_host.specs.Judgement.{Decision, IsOpenedTo, OpensRequest}
 use Rattle.duk_host.specs.Used.{IsUsed}
 use Rattle.duk_hsm.specs.Commands.{HasBadCounter, IsOtherMac}
 use Rattle.duk_hsm.specs.Group.{AreOpened, OpenedPlaces}
@@ -13,6 +13,7 @@ use Rattle.duk_hsm.specs.TransactionKeys.{TransactionKeys}
 use Rattle.duk_hsm.specs.declared.fault.HsmFault.{HsmFault}
 use Rattle.duk_journal.specs.Entry.{MayStandUnder}
 use Rattle.duk_journal.specs.Groups.{Entries}
+use Rattle.duk_journal.specs.Standing.{payment_entry}
 use Rattle.duk_journal.specs.declared.entry.Entry.{Entry}
 use Rattle.duk_reversal.specs.Reversal.{IsReversal, reversal_text}
 use Rattle.duk_reversal.specs.declared.reversal.Reversal as reversal_frame
@@ -21,8 +22,7 @@ use Rattle.duk_tree.specs.Path.{IsUsable}
 use Rattle.duk_tree.specs.Serial.{Serial, prefix_of}
 use Rattle.duk_line.specs.Host.{IndexOf, IsIndexOf}
 use Rattle.duk_line.specs.Judged.{AreJudged}
-use Rattle.duk_line.specs.Judgement.{IsJudged, IsReversalAcceptable, IsSettled, MayBeTaken, line_basis, reversal_entry}
-use Rattle.duk_line.specs.Latest.{payment_entry, used_by}
+use Rattle.duk_line.specs.Judgement.{IsJudged, MayBeTaken, line_basis, reversal_entry}
 use Rattle.duk_line.specs.declared.reason.Reason.{Reason}
 use Rattle.duk_line.specs.declared.reason.Reason.TheVariants as reason
 
@@ -86,35 +86,7 @@ IsAgainstMac keys reversal reason.BadMac =
     IsOtherMac keys reversal.numbers.ksn (reversal_text reversal.numbers) reversal.mac
 IsAgainstMac keys reversal _ = ⊥
 
--- the number is not used, and there is no room for it
-pub record IsNewWithoutRoom (index : IndexOf) (room : ℕ) (ksn : Serial) : Type 0 where
-  pub new : ¬ IsUsed index.used ksn
-  pub full : room ≡ 0
-
--- why a number cannot be used by a reversal: it is used, or else there is no room
-abbrev pub IsAgainstNumber : IndexOf → ℕ → Serial → Reason → Type 0
-IsAgainstNumber index room ksn reason.Used = IsUsed index.used ksn
-IsAgainstNumber index room ksn reason.JournalFull = IsNewWithoutRoom index room ksn
-IsAgainstNumber index room ksn _ = ⊥
-
--- by any entries of which the index is, the bytes are settled with this frame
-abbrev pub SettlesBy : HsmKeys → IndexOf → ℕ → ℕ → List ℕ → List ℕ → Type 0
-SettlesBy keys index capacity room bytes frame = (entries : Entries) (decides : Decision)
-    → IsIndexOf entries index → IsSettled (line_basis keys entries capacity room decides) bytes frame
-
--- by any such entries, the request may be accepted, where there is room for so many payments
-abbrev pub AcceptableBy : HsmKeys → IndexOf → ℕ → Request → Type 0
-AcceptableBy keys index payments request = (entries : Entries) (decides : Decision)
-    → IsIndexOf entries index
-    → IsAcceptable (basis_with keys (used_by entries) [] payments decides) request
-
--- by any such entries, the reversal may be accepted, where there is room for so many of them
-abbrev pub ReversalAcceptableBy : HsmKeys → IndexOf → ℕ → reversal_frame.Reversal → Type 0
-ReversalAcceptableBy keys index room reversal = (entries : Entries) (capacity : ℕ)
-    → (decides : Decision) → IsIndexOf entries index
-    → IsReversalAcceptable (line_basis keys entries capacity room decides) reversal
-
--- by any such entries, there is no reason against the bytes
+-- by any entries of which the index is, there is no reason against the bytes
 abbrev pub MayBeAccepted : HsmKeys → IndexOf → ℕ → ℕ → List ℕ → Type 0
 MayBeAccepted keys index capacity room bytes = (entries : Entries) (decides : Decision)
     → IsIndexOf entries index → MayBeTaken (line_basis keys entries capacity room decides) bytes

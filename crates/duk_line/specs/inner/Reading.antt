@@ -5,11 +5,12 @@ use Rattle.duk_host.specs.declared.fault.HostFault.TheVariants as fault
 use Rattle.duk_journal.specs.CheckSum.{check_sum_of}
 use Rattle.duk_journal.specs.Groups.{Entries}
 use Rattle.duk_journal.specs.Journal.{JournalMeaning, EntriesUnread}
+use Rattle.duk_journal.specs.Standing.{UseNewNumbers}
 use Rattle.duk_journal.specs.declared.check_sum.CheckSum.{CheckSum}
 use Rattle.duk_store.specs.StoreState.{Stays}
 use Rattle.duk_store.specs.declared.fault.StoreFault.TheVariants.{Damaged}
 use Rattle.duk_line.specs.Host.{HasSets, IndexOf, IsIndexOf}
-use Rattle.duk_line.specs.Latest.{UseNewNumbers, most_latest}
+use Rattle.duk_line.specs.Latest.{most_latest}
 
 -- the index of the first entries of a list of so many in all
 pub record IsIndexOfFirst (total : ℕ) (seen : Entries) (index : IndexOf) : Type 0 where

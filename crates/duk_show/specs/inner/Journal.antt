@@ -3,11 +3,11 @@ use Rattle.std.specs.Prelude.{◌≡◌, ◌⊎◌, ◌↔◌, ◌<◌, ◌≤�
 use Rattle.duk_host.specs.Used.{IsUsed}
 use Rattle.duk_journal.specs.Groups.{Entries, HasContents}
 use Rattle.duk_journal.specs.RecordFormat.{IsOpen, record_at, record_length}
+use Rattle.duk_journal.specs.Standing.{UseNewNumbers, used_by}
 use Rattle.duk_journal.specs.declared.entry.Entry.{Entry}
 use Rattle.duk_store.specs.Log.{Numbers}
 use Rattle.duk_tree.specs.Serial.{Serial}
 use Rattle.duk_show.specs.Journal.{BeginsJournal, GoesOn}
-use Rattle.duk_show.specs.Standing.{UseNewNumbers, used_by}
 use Rattle.duk_show.specs.declared.fault.ShowFault.{ShowFault}
 use Rattle.duk_show.specs.declared.fault.ShowFault.TheVariants.{JournalRefused, OutOfMemory}
 

@@ -4,12 +4,12 @@ use Rattle.std.specs.List.{IsDistinct, filter, list_any}
 use Rattle.std.specs.Map.{keys_of, lookup}
 use Rattle.std.specs.Option.{is_some}
 use Rattle.duk_journal.specs.Groups.{Entries}
+use Rattle.duk_journal.specs.Standing.{amount_approved, is_by, is_paid, is_payment, is_reversed, is_undone, standing_amount, was_approved}
 use Rattle.duk_journal.specs.declared.entry.Decided.{Decided}
 use Rattle.duk_journal.specs.declared.entry.Entry.{Entry}
 use Rattle.duk_tree.specs.Serial.{Serial}
-use Rattle.duk_show.specs.Journal.{is_by, numbers_of, payer_lines, terminal_line}
+use Rattle.duk_show.specs.Journal.{numbers_of, payer_lines, terminal_line}
 use Rattle.duk_show.specs.Log.{last_after}
-use Rattle.duk_show.specs.Standing.{amount_approved, is_paid, is_payment, is_reversed, is_undone, standing_amount, was_approved}
 use Rattle.duk_show.specs.declared.journal_tallies.Payer.{Payer}
 use Rattle.duk_show.specs.declared.journal_tallies.Share.{Share}
 

@@ -2,6 +2,7 @@ use Rattle.duk_books.specs.Books.{meanings_of}
 use Rattle.duk_books.proofs.agreement.Agreement.{reached_agrees, reached_keeps}
 use Rattle.duk_books.proofs.agreement.BooksHold.{BookLaws}
 use Rattle.duk_books.proofs.agreement.ToldIsSold.{call_told}
+use Rattle.duk_books.proofs.agreement.Totals.{reached_totals}
 use Rattle.duk_books.proofs.laws.agreement.Goals as goal
 use Rattle.duk_books.proofs.laws.agreement.Goals.{After-one_reply}
 
@@ -32,6 +33,7 @@ laws_of g c = record {
 pub returns : goal.returns
 returns g c = record {
   agree = λ books reached. reached_agrees _ (laws_of g c) books reached;
+  totals = λ books reached. reached_totals _ (laws_of g c) (record { stands = c.totals.ensures.stands; nothing_else = c.totals.ensures.nothing_else }) books reached;
   sent = λ books reached. reached_keeps _ (laws_of g c) books reached;
   told = λ old new outcomes reached leads. call_told _ (laws_of g c) old new outcomes reached leads;
 }

@@ -21,6 +21,9 @@ invariant_of-books g c = reached g c
 pub returns-clause-agree : goal.returns-clause-agree
 returns-clause-agree g c = c.agreement.ensures.agree c.run_system.new.system (reached g c)
 
+pub returns-clause-totals : goal.returns-clause-totals
+returns-clause-totals g c = c.agreement.ensures.totals c.run_system.new.system (reached g c)
+
 pub returns-clause-sent : goal.returns-clause-sent
 returns-clause-sent g c = c.agreement.ensures.sent c.run_system.new.system (reached g c)
 

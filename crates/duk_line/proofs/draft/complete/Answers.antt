@@ -1,8 +1,7 @@
-use Rattle.std.proofs.Common.{◌≡◌, ◌∙◌, ◌<◌, ◌+◌, ◌++◌, ◌∷◌, List, ℕ, [], ap, arith, get_or, length, map, subst, sym, take}
-use Rattle.std.proofs.lemmas.List.{append-nil, append_assoc, get_or-map, get_or-take, get_or_default, length-append, length-take-le, map_more, take-map, take_all}
+use Rattle.std.proofs.Common.{◌≡◌, ◌∙◌, ◌<◌, ◌++◌, ◌∷◌, List, ℕ, [], ap, arith, get_or, length, map, subst, sym, take}
+use Rattle.std.proofs.lemmas.List.{append_assoc, get_or-map, get_or-take, length-append, length-take-le, map_more, take-map, take_all}
 use Rattle.std.specs.Borrow.{Bor}
 use Rattle.duk_group.specs.Numbers.{bytes_at, message_at, number_at}
-use Rattle.duk_group.specs.declared.transposed.TheConstants.{WIDTH}
 use Rattle.duk_hsm.specs.Commands.{HasTransactionKey, IsReplyMac}
 use Rattle.duk_line.specs.inner.Draft.{frame_of, text_in}
 use Rattle.duk_line.proofs.Drafts.{completed, under_at}

@@ -1,46 +1,35 @@
-use Rattle.std.proofs.Common.{subst, sym}
-use Rattle.duk_line.specs.inner.Draft.{IsDraftUnder}
-use Rattle.duk_line.specs.inner.Judged.{IsNoReversal}
-use Rattle.duk_line.proofs.Judging.{if_err, if_ok}
-use Rattle.duk_line.proofs.NumbersOpened.{not_both}
+use Rattle.std.proofs.Common.{◌++◌, [], subst, sym}
+use Rattle.duk_line.specs.Host.{IsIndexOf}
+use Rattle.duk_line.specs.Judgement.{IsJudged, line_basis}
+use Rattle.duk_line.specs.inner.Draft.{IsDraftUnder, frame_of}
+use Rattle.duk_line.proofs.Judging.{on_err}
+use Rattle.duk_line.proofs.Steps.{asked_is, has_key, its_code, judged_by_steps, may_be_taken, number_is}
 use Rattle.duk_line.proofs.judge.judge_frame.Goals as goal
 
-pub judge_reversal-requires : goal.judge_reversal-requires
-judge_reversal-requires g c =
-    record { opened = (c.requires.opened.0, c.requires.opened.2.reversal c.in-Some.reversal c.in-Some.ensures.found) }
+pub returns-in_err-settled-clause-refused : goal.returns-in_err-settled-clause-refused
+returns-in_err-settled-clause-refused g c = on_err _ c.from_residual.result (λ keys capacity opens room entries decides is_index.
+    may_be_taken keys entries capacity c.args.room.entries decides c.args.frame.now [] c.one_reading.ensures.request c.in-Ok.authentic (c.in-Ok.ensures.authentic keys opens)
+    (c.in_err-settled.ensures.refused capacity room entries is_index))
 
-pub judge_payment-requires-clause-opened : goal.judge_payment-requires-clause-opened
-judge_payment-requires-clause-opened g c =
-    let none : IsNoReversal c.args.frame.now = λ reversal is. not_both c.read_reversal.result reversal (c.read_reversal.ensures.every reversal is) c.in-None.is in
-    (c.requires.opened.0, c.requires.opened.1, c.requires.opened.2.request none)
+pub returns-clause-judged : goal.returns-clause-judged
+returns-clause-judged g c = λ keys capacity opens room entries is_index.
+    let bytes = c.args.frame.now in
+    let decides = g.I.Issuer.decides c.args.issuer.now in
+    let one_request = c.one_reading.ensures.request in
+    let frame = frame_of keys c.answer.result in
+    let settled = c.in_ok-settled.settled in
+    let is = c.in-Ok.ensures.authentic keys opens in
+    let asked = asked_is keys bytes c.in-Ok.authentic settled is c.in_ok-settled.ensures.asked in
+    let here = c.in_ok-settled.ensures.settled keys capacity (c.in-Ok.ensures.opened keys opens) room entries is_index in
+    let settles = its_code keys entries capacity c.args.room.entries decides bytes frame one_request c.in-Ok.authentic settled is c.in_ok-settled.ensures.asked here.0 in
+    let judged = judged_by_steps keys entries capacity c.args.room.entries decides bytes frame one_request settled asked settles (c.answer.ensures.answer keys (has_key keys bytes settled asked)) in (
+      subst (λ added. IsJudged (line_basis keys entries capacity c.args.room.entries decides) bytes frame added) (sym c.entry.ensures.entry) judged,
+      subst (λ added. IsIndexOf (entries ++ added) c.settle.new.index) (sym c.entry.ensures.entry) here.1,
+    )
 
-pub returns-in-Some-clause-judged : goal.returns-in-Some-clause-judged
-returns-in-Some-clause-judged g c =
-    if_ok c.judge_reversal.result c.judge_reversal.ensures.judged (λ judged so keys capacity opens payments.
-    so keys (g.I.Issuer.decides c.args.issuer.now) capacity c.args.frame.now (opens.reversal c.in-Some.reversal c.in-Some.ensures.found) c.in-Some.ensures.found)
-
-pub returns-in-Some-clause-refused : goal.returns-in-Some-clause-refused
-returns-in-Some-clause-refused g c =
-    if_err c.judge_reversal.result c.judge_reversal.ensures.refused (λ so keys capacity opens payments.
-    so keys capacity c.args.frame.now (opens.reversal c.in-Some.reversal c.in-Some.ensures.found) c.in-Some.ensures.found)
-
-pub returns-in-None-clause-judged : goal.returns-in-None-clause-judged
-returns-in-None-clause-judged g c =
-    let none : IsNoReversal c.args.frame.now = λ reversal is. not_both c.read_reversal.result reversal (c.read_reversal.ensures.every reversal is) c.in-None.is in
-    if_ok c.judge_payment.result c.judge_payment.ensures.judged (λ judged so keys capacity opens payments. so keys capacity c.args.room.entries (opens.request none) payments)
-
-pub returns-in-None-clause-refused : goal.returns-in-None-clause-refused
-returns-in-None-clause-refused g c =
-    let none : IsNoReversal c.args.frame.now = λ reversal is. not_both c.read_reversal.result reversal (c.read_reversal.ensures.every reversal is) c.in-None.is in
-    if_err c.judge_payment.result c.judge_payment.ensures.refused (λ so keys capacity opens payments. so keys capacity c.args.room.entries (opens.request none) payments)
-
-pub returns-in-Some-clause-under : goal.returns-in-Some-clause-under
-returns-in-Some-clause-under g c =
-    let reversal = c.in-Some.reversal in
-    if_ok c.judge_reversal.result c.judge_reversal.ensures.under (λ judged so keys ksn opens number.
-    subst (λ ksn. IsDraftUnder keys ksn judged.answer) (sym (number.reversal reversal c.in-Some.ensures.found)) (so keys (opens.reversal reversal c.in-Some.ensures.found)))
-
-pub returns-in-None-clause-under : goal.returns-in-None-clause-under
-returns-in-None-clause-under g c =
-    let none : IsNoReversal c.args.frame.now = λ reversal is. not_both c.read_reversal.result reversal (c.read_reversal.ensures.every reversal is) c.in-None.is in
-    if_ok c.judge_payment.result c.judge_payment.ensures.under (λ judged so keys ksn opens number. so keys ksn (opens.request none) (number.request none))
+pub returns-clause-under : goal.returns-clause-under
+returns-clause-under g c = λ keys ksn opens number.
+    let bytes = c.args.frame.now in
+    let settled = c.in_ok-settled.settled in
+    let asked = asked_is keys bytes c.in-Ok.authentic settled (c.in-Ok.ensures.authentic keys opens) c.in_ok-settled.ensures.asked in
+    subst (λ ksn. IsDraftUnder keys ksn c.answer.result) (sym (number_is keys bytes ksn settled asked number)) (c.answer.ensures.under keys (has_key keys bytes settled asked))

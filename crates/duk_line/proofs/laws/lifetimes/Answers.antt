@@ -1,6 +1,6 @@
+use Rattle.duk_journal.specs.Standing.{UseNewNumbers}
 use Rattle.duk_line.specs.Host.{host_meaning_of}
 use Rattle.duk_line.specs.Judged.{TellWhatIsKept}
-use Rattle.duk_line.specs.Latest.{UseNewNumbers}
 use Rattle.duk_line.proofs.LifetimeOfServices.{alike_in_lifetime, kept_in_lifetime}
 use Rattle.duk_line.proofs.RepliesOfServices.{AllAlike, HasAll, ReplyLaws, has_none, replies_kept_up, tells_kept_up}
 use Rattle.duk_line.proofs.UsableAgain.{new_kept_up}

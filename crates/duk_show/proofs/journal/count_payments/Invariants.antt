@@ -1,6 +1,6 @@
 use Rattle.std.proofs.Common.{◌≡◌, ◌≤◌, take}
 use Rattle.std.specs.List.{count_by}
-use Rattle.duk_show.specs.Standing.{is_payment}
+use Rattle.duk_journal.specs.Standing.{is_payment}
 use Rattle.duk_show.proofs.journal.count_payments.Given as goal
 
 -- the payments of the entries so far

@@ -1,7 +1,7 @@
 use Rattle.std.proofs.Common.{arith, subst}
 use Rattle.std.proofs.lemmas.List.{take_all}
 use Rattle.duk_journal.specs.Groups.{Entries}
-use Rattle.duk_show.specs.Standing.{reversed_numbers}
+use Rattle.duk_journal.specs.Standing.{reversed_numbers}
 use Rattle.duk_show.specs.inner.Journal.{AreThose}
 use Rattle.duk_show.proofs.JournalNumbers.{reversed_more}
 use Rattle.duk_show.proofs.standing.reversed_by_all.Goals as goal

@@ -1,5 +1,5 @@
 use Rattle.std.proofs.Common.{take}
-use Rattle.duk_show.specs.Standing.{reversed_numbers}
+use Rattle.duk_journal.specs.Standing.{reversed_numbers}
 use Rattle.duk_show.specs.inner.Journal.{AreThose}
 use Rattle.duk_show.proofs.standing.reversed_by_all.Given as goal
 

@@ -1,5 +1,5 @@
 use Rattle.std.proofs.Common.{◌∷◌, [], sym, subst}
-use Rattle.duk_show.specs.Standing.{reversed_in}
+use Rattle.duk_journal.specs.Standing.{reversed_in}
 use Rattle.duk_show.specs.inner.Journal.{AddsAll}
 use Rattle.duk_show.proofs.JournalNumbers.{adds_one}
 use Rattle.duk_show.proofs.standing.take_reversed.Goals as goal
