@@ -19,8 +19,8 @@ OF_PROGRAM = (
 OF_LIBRARY = ("docs/FORMATS.md", "docs/GLOSSARY.md", "docs/LIBRARY.md", "docs/calls.txt")
 # What these documents show, and the page with its picture.
 PAGE = "page/dukpt.html"
-SHOWN = ("docs/page.png", "docs/pictures/lost_reply.svg", "docs/pictures/power_failure.svg",
-         "docs/pictures/reversal.svg", PAGE)
+SHOWN = ("docs/page.png", "docs/pictures/hosts.svg", "docs/pictures/journal.svg", "docs/pictures/keys.svg",
+         "docs/pictures/lost_reply.svg", "docs/pictures/power_failure.svg", "docs/pictures/reversal.svg", PAGE)
 
 
 def documents(sources: Sources, package: str, names: Sequence[str],
