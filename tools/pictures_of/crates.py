@@ -61,7 +61,18 @@ def read_list(text: str) -> tuple[list[Layer], dict[str, list[str]]]:
                 raise Unreadable(f"{LIST}: {row} is no line of a further crate")
             uses[it["name"]] = it["uses"].split()
         layers.append(Layer(head.removeprefix("# "), [it["name"] for _, it in found if it]))
-    return layers, {name: [it for it in used if it in uses] for name, used in uses.items()}
+    return layers, own(uses)
+
+
+def own(uses: Mapping[str, Sequence[str]]) -> dict[str, list[str]]:
+    """Of what each uses the crates of the list, which stand before it."""
+    places = {name: at for at, name in enumerate(uses)}
+    held = {name: [it for it in used if it in places] for name, used in uses.items()}
+    for name, used in held.items():
+        for it in used:
+            if places[it] >= places[name]:
+                raise Unreadable(f"{LIST}: {name} uses {it}, which does not stand before it")
+    return held
 
 
 def read_table(text: str) -> dict[str, str]:

@@ -22,7 +22,7 @@ A write or sync that fails: journal: failed. No answer of the group goes out, an
 over this file again: copy-journal makes a copy.
 The copy has what the old journal keeps, and zeros. It is checked, and started in the place of the old one.
 Full: a payment has reason 6 where less than a sixteenth of all records is left, a reversal where none is. \
-After records of zeros are appended it is started again.
+The service is stopped, records of zeros are appended, and it is started again.
 Refused as damaged: bytes that no journal leaves, or a number that is used again. The line is journal: failed, \
 before any frame is read; nothing is written, and copy-journal refuses it too."""
 # How a record is drawn, by the letter that stands for it here.

@@ -10,9 +10,9 @@ TOLD = """\
 Key injection facility: from the base derivation key of a key set follows the initial key of each terminal, by \
 its initial key serial number. The ledger keeps which were issued, and no key.
 Loading: the loading block is the initial key, enciphered and authenticated under the loading key.
-Terminal: it takes the initial key out of the loading block, and does not keep it. Its 21 registers have the \
-keys of all numbers that are left; its cell keeps them. For a payment it takes the next number: that \
-transaction key leaves the registers before the request goes out. Until the reply, the next begin, reversal or \
+Terminal: it takes the initial key out of the loading block, and does not keep it. Its 21 registers have \
+the future keys, from which those of all numbers that are left follow; its cell keeps them. For a payment it \
+takes the next number: that transaction key leaves the registers before the request goes out. Until the reply, the next begin, reversal or \
 load, or a restart it has the response key in memory.
 Host: its security module has the base derivation keys and the zone key. It derives the transaction key anew, by \
 the key serial number of the frame.
@@ -58,7 +58,7 @@ def keys() -> Iterator[str]:
     yield key(1, 0, "brown", "Loading key", "shared with one terminal alone, or used once")
     yield key(1, 1, "brown", "Loading block", "the initial key under it; destroy it after the load")
     yield key(2, 1, "brown", "Initial key", "taken out of the block, and not kept")
-    yield key(2, 2, "blue", "21 registers", "in the cell: the keys of all numbers that are left")
+    yield key(2, 2, "blue", "21 registers", "in the cell: the keys of all numbers left follow from them")
     yield key(2, 3, "green", "Transaction key", "leaves the registers before the request goes out")
     yield card(place(2, 4), [*VARIANTS, Line("this one stays until the reply")], "green")
     yield key(3, 0, "red", "Base derivation keys", "of all key sets that it serves")
