@@ -1,5 +1,5 @@
 """Runs of `issue --out` whose power is lost at each of their calls. Of what that leaves one goes on as
-docs/RECIPES.md says: with `--skip-issued`, and with `--again` for the number that has no whole line."""
+docs/COMMANDS.md says: with `--skip-issued`, and with `--again` for the number that has no whole line."""
 from __future__ import annotations
 
 from dataclasses import dataclass

@@ -16,11 +16,11 @@ from .support.program import ROOT
 
 LIBRARIES = "usr/lib/x86_64-linux-gnu"
 MODULES = "usr/lib/python3/dist-packages"
-OF_LIBRARY = ("FORMATS.md", "GLOSSARY.md", "LIBRARY.md", "calls.txt")
+OF_LIBRARY = ("DEFINITIONS.md", "FORMATS.md", "LIBRARY.md", "calls.txt")
 DOCUMENTS = {
-    "dukpt": ("COMMANDS.md", "DECISIONS.md", "DEPLOYMENT.md", "FORMATS.md", "GLOSSARY.md",
-              "LIBRARY.md", "OPERATION.md", "PERFORMANCE.md", "PROVED.md", "RECIPES.md",
-              "SECURITY.md", "TESTED.md", "calls.txt"),
+    "dukpt": ("COMMANDS.md", "DECISIONS.md", "DEFINITIONS.md", "DEPLOYMENT.md", "FORMATS.md",
+              "LIBRARY.md", "OPERATION.md", "PERFORMANCE.md", "PROVED.md", "SECURITY.md",
+              "calls.txt"),
     "dukpt-host": (), "libdukpt0": (), "libdukpt-dev": OF_LIBRARY, "python3-dukpt": OF_LIBRARY,
 }
 # The mode, the path, and the file of the repository whose bytes it has, where it has those of one.

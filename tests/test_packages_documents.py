@@ -68,7 +68,7 @@ class Documents(PackageCase):
         self.assertNotEqual(links.read_text(), text)
         package = self.made(root, self.small_program())["dukpt"]
         dead = {target for path in documents_of(package) for target in dead_links(package, path)}
-        self.assertLessEqual({"docs/DEFINITIONS.md", "CONTRIBUTING.md", "vectors/README.md"}, dead)
+        self.assertLessEqual({"docs/ARCHITECTURE.md", "CONTRIBUTING.md", "vectors/README.md"}, dead)
 
     def test_a_link_that_leads_nowhere(self) -> None:
         """Code that looks like one is none."""

@@ -211,7 +211,7 @@ class TestBlocks(PageCase):
             ["mac", "96 to 111", text[96:].decode()]])
 
     def test_words(self) -> None:
-        """Fields in the words of docs/GLOSSARY.md; what the standard lacks is said to be so."""
+        """Fields in the words of the glossary; what the standard lacks is said to be so."""
         for field, text, words in (
                 ("usage", "B0", "base derivation key (BDK)"), ("usage", "B1", "initial key (IPEK)"),
                 ("usage", "K1", "key block protection key (KBPK)"), ("usage", "P0", "PIN encryption"),

@@ -1,6 +1,6 @@
-"""The recipes of docs/RECIPES.md.
+"""The recipes of docs/COMMANDS.md.
 
-A recipe is a part of the document below a heading of the second level. Of its indented lines `$ `
+A recipe stands in the part "Recipes" below a heading of the third level. Of its indented lines `$ `
 begins a command and `> ` goes on with it, `< ` is typed behind it, and what stands after that is what it
 prints. The commands of a recipe are run in one bash, behind those that stand before the first recipe, in a folder
 that has the program as `dukpt` beside `tests` and `examples`. Each ends with status 0, and nothing is
@@ -16,7 +16,8 @@ from dataclasses import dataclass
 from .support.case import ProgramCase
 from .support.program import ROOT, SECONDS
 
-RECIPES = ROOT / "docs" / "RECIPES.md"
+COMMANDS = ROOT / "docs" / "COMMANDS.md"
+PART = "## Recipes"
 # A key or a PIN that a command writes, or a PAN.
 SECRET = re.compile(r"\b(?:echo|printf)\b[^|]*(?:\b(?:[0-9A-F]{32,}|\d{4,19})|\$KEYS?)\b|<<")
 # Stands after what a command prints, with its status. No command prints it.
@@ -40,10 +41,13 @@ class Command:
 def recipes() -> list[tuple[str, list[Command]]]:
     """The title of each recipe, and its commands. The first one is what all begin with."""
     found: list[tuple[str, list[Command]]] = [("what each begins with", [])]
-    for number, line in enumerate(RECIPES.read_text(encoding="utf-8").splitlines(), 1):
+    is_inside = False
+    for number, line in enumerate(COMMANDS.read_text(encoding="utf-8").splitlines(), 1):
         if line.startswith("## "):
-            found.append((line[3:], []))
-        elif line.startswith("    "):
+            is_inside = line == PART
+        elif is_inside and line.startswith("### "):
+            found.append((line[4:], []))
+        elif is_inside and line.startswith("    "):
             read_line(found[-1][1], line[4:], number)
     return found
 
@@ -52,7 +56,7 @@ def read_line(commands: list[Command], line: str, number: int) -> None:
     if line.startswith("$ "):
         commands.append(Command(line[2:]))
     elif not commands:
-        raise ValueError(f"line {number} of docs/RECIPES.md belongs to no command")
+        raise ValueError(f"line {number} of docs/COMMANDS.md belongs to no command")
     elif line.startswith("> "):
         commands[-1].text += "\n" + line[2:]
     elif line.startswith("< "):

@@ -19,7 +19,7 @@ from .traced_files import OPENS, SYNCS, WRITES, Call
 
 # The files by their names, and their folder.
 LEDGER, LINES, FOLDER = "ledger", "blocks", "."
-# A line that is whole, as docs/RECIPES.md looks for them.
+# A line that is whole, as docs/COMMANDS.md looks for them.
 WHOLE = re.compile(rb"issued .* .{80} .{6}")
 
 
@@ -36,7 +36,7 @@ class Left:
 
 
 def whole_lines_in(lines: Optional[bytes]) -> bytes:
-    """The lines that docs/RECIPES.md finds in a file, each with an end."""
+    """The lines that docs/COMMANDS.md finds in a file, each with an end."""
     return b"".join(it + b"\n" for it in (lines or b"").split(b"\n") if WHOLE.fullmatch(it))
 
 

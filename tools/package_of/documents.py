@@ -13,10 +13,10 @@ from .sources import Sources
 # What whoever runs the program reads, and who calls the library. The others are for those who change
 # them.
 OF_PROGRAM = (
-    "README.md", "docs/COMMANDS.md", "docs/DECISIONS.md", "docs/DEPLOYMENT.md", "docs/FORMATS.md",
-    "docs/GLOSSARY.md", "docs/LIBRARY.md", "docs/OPERATION.md", "docs/PERFORMANCE.md",
-    "docs/PROVED.md", "docs/RECIPES.md", "docs/SECURITY.md", "docs/TESTED.md", "docs/calls.txt")
-OF_LIBRARY = ("docs/FORMATS.md", "docs/GLOSSARY.md", "docs/LIBRARY.md", "docs/calls.txt")
+    "README.md", "docs/COMMANDS.md", "docs/DECISIONS.md", "docs/DEFINITIONS.md",
+    "docs/DEPLOYMENT.md", "docs/FORMATS.md", "docs/LIBRARY.md", "docs/OPERATION.md",
+    "docs/PERFORMANCE.md", "docs/PROVED.md", "docs/SECURITY.md", "docs/calls.txt")
+OF_LIBRARY = ("docs/DEFINITIONS.md", "docs/FORMATS.md", "docs/LIBRARY.md", "docs/calls.txt")
 # What these documents show, and the page with its picture.
 PAGE = "page/dukpt.html"
 SHOWN = ("docs/page.png", "docs/pictures/hosts.svg", "docs/pictures/journal.svg", "docs/pictures/keys.svg",
