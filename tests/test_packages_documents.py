@@ -11,12 +11,11 @@ from pathlib import Path
 from typing import Iterator, Mapping
 from urllib.parse import unquote
 
+from .support.documents import LINK, anchors
 from .support.packages import (
     UNPROVED, VERSION, Package, PackageCase, copy_of_repository, demand, make, packages_in)
 from .support.program import ROOT
 
-LINK = re.compile(r"\]\(([^()\s]+)\)")
-HEADING = re.compile(r"^#+ (.+)$", re.M)
 IN_HTML = re.compile(r"""(?:href|src)\s*=\s*["']([^"'#]+)["']""")
 CODE = re.compile(r"^```.*?^```$|`[^`\n]*`|^    [^\n]*$", re.M | re.S)
 # A document that is named as a text.
@@ -222,11 +221,6 @@ def dead_links(package: Package, path: str) -> Iterator[str]:
 
 def place(path: str, link: str) -> str:
     return os.path.normpath(Path(path).parent / unquote(link))
-
-
-def anchors(text: str) -> set[str]:
-    """The anchors of headings, as hosts of Markdown make them."""
-    return {re.sub(r"[^\w\- ]", "", it.lower()).replace(" ", "-") for it in HEADING.findall(text)}
 
 
 def words_of(text: str) -> list[str]:
