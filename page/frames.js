@@ -8,7 +8,7 @@ import { findKeyOf } from "./find.js";
 import { checksOf } from "./frame_checks.js";
 import { KINDS, partsOfFrame } from "./frame_parts.js";
 import { damageAt } from "./frame_whole.js";
-import { doubleKey, hex } from "./hexadecimal.js";
+import { doubleKey } from "./hexadecimal.js";
 
 // The bytes of the longest frame, and how many frames are shown.
 const MOST_BYTES = 64;

@@ -334,7 +334,7 @@ class Order(ReferenceCase):
 
     def referred(self, words: list[str]) -> list[str]:
         """The same words, with a file for each secret."""
-        command, about, given, place, is_value = words[0], COMMANDS[words[0]], [words[0]], 0, False
+        about, given, place, is_value = COMMANDS[words[0]], [words[0]], 0, False
         for word in words[1:]:
             option, _, value = word[2:].partition("=")
             if word.startswith("--"):

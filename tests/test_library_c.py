@@ -15,7 +15,7 @@ from typing import Sequence
 from .support.case import Case
 from .support.library import (
     SANITIZED, STRICT, built_library, compiler, copy_sources, demand, linked, program, ran)
-from .support.library_calls import CALLS, FAULTS, Value, answer
+from .support.library_calls import CALLS, Value, answer
 from .support.program import ROOT, Word
 from .test_ciphers import BASE, vectors
 

@@ -5,7 +5,6 @@ Faults that are put into copies of it are found.
 from __future__ import annotations
 
 import subprocess
-from pathlib import Path
 
 from .support.case import Case
 from .support.library import compiler

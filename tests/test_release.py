@@ -17,7 +17,7 @@ from typing import Any
 from .support.packages import VERSION
 from .support.program import ROOT
 from .support.releases import (
-    DAY_SECONDS, UNRELEASED, Repository, ReleaseCase, differing, read_json)
+    DAY_SECONDS, UNRELEASED, ReleaseCase, differing, read_json)
 
 # The ports of crates of Rust that README.md names are linked into the program, but for one that an
 # example alone uses; and what the kit has the terms of.

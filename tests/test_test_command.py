@@ -1,7 +1,6 @@
 """The test command `.ci/run`, over commands that stand in for those that it runs."""
 from __future__ import annotations
 
-import os
 import shutil
 import subprocess
 from pathlib import Path

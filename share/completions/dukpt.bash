@@ -31,7 +31,7 @@ _dukpt_options="--explain --json --progress -h --help -V --version"
 
 # Which value the last of these words is; nothing where it is none.
 _dukpt_value() {
-    local named=" ${_dukpt_arguments[${2:-none}]-} " values=() option= word
+    local named=" ${_dukpt_arguments[${2:-none}]-} " values=() option="" word
     for word in $named; do
         [[ $word == -* ]] || values+=("$word")
     done

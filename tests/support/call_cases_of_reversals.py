@@ -1,11 +1,11 @@
 """The cases of `call_cases` for reversals, their replies, and streams of frames."""
 from __future__ import annotations
 
-from typing import Iterator, Sequence
+from typing import Iterator
 
 from . import many
 from .call_cases import FRAME_ROOM, Argument, Chance, Drawn, drawn
-from .dukpt import counter_of, iksn_of
+from .dukpt import iksn_of
 from .frames import LONGEST_BODY, STATES, bytes_of, reverses
 from .library_calls import STATUS
 

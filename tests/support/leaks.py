@@ -69,9 +69,9 @@ def leaked(ended: Ended, secrets: Iterable[str], asked: Iterable[str] = ()) -> l
     """Those of these secrets that stand on standard error, or unasked on standard output."""
     output, faults = (it.decode(errors="replace").upper() for it in (ended.output, ended.faults))
     shown_ones = {it.upper() for it in asked}
-    for shown in sorted(shown_ones, key=len, reverse=True):
+    for one in sorted(shown_ones, key=len, reverse=True):
         # A part of what is asked for may be a part of a secret by right.
-        output = output.replace(shown, " ")
+        output = output.replace(one, " ")
     return [it for it in {it.upper() for it in secrets if len(it) >= LEAST}
             if is_in(it, faults) or it not in shown_ones and is_in(it, output)]
 

@@ -95,7 +95,7 @@ def beside(template: str, version: str) -> str:
 
 
 def run(command: str, *words: Word) -> None:
-    done = subprocess.run([command, *map(os.fspath, words)], stdout=subprocess.PIPE,
+    done = subprocess.run([command, *(os.fspath(it) for it in words)], stdout=subprocess.PIPE,
                           stderr=subprocess.STDOUT, text=True, check=False)
     if done.returncode != 0:
         raise Refused(f"{command} failed\n{done.stdout.rstrip()}")

@@ -43,7 +43,7 @@ def lay_out(tree: Path, items: Iterable[Item], seconds: int) -> None:
 def pack(tree: Path, made: Path, seconds: int) -> None:
     """Files belong to root, stand in the order of their names, and are compressed by one thread,
     since several leave other bytes."""
-    words = ["dpkg-deb", "--root-owner-group", "-Zxz", "--build", tree, made]
+    words = ["dpkg-deb", "--root-owner-group", "-Zxz", "--build", str(tree), str(made)]
     environment = {"PATH": os.environ["PATH"], "LC_ALL": "C.UTF-8", "DPKG_DEB_THREADS_MAX": "1",
                    "SOURCE_DATE_EPOCH": str(seconds)}
     try:

@@ -3,7 +3,6 @@ from __future__ import annotations
 
 import re
 import tomllib
-from pathlib import Path
 from typing import Iterator, Sequence
 
 from .about import proof_line

@@ -76,7 +76,7 @@ def kept(page: Path) -> Modules:
 def held_in(text: str, name: str) -> Optional[bytes]:
     """What a page holds under a name, where it does."""
     held = re.search(HELD.format(name=name), text)
-    return held and base64.b64decode(held[1])
+    return base64.b64decode(held[1]) if held else None
 
 
 def checked(code: bytes, place: str) -> bytes:

@@ -53,7 +53,8 @@ class VectorFile:
 
     def text(self, proved: Proved) -> str:
         """The text of the file, with the answer of the proved code to each case."""
-        number, groups, used = self.first, [], set()
+        used: set[str] = set()
+        number, groups = self.first, []
         for group in without_repeats(list(self.groups(proved, Draw(self.name)))):
             lines = []
             for case in group.cases:

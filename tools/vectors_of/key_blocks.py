@@ -62,9 +62,10 @@ def wrap_headers(draw: Draw) -> Group:
         cases.append(Case(f"a padding of {told}",
                           {"kbpk": SAMPLE_KBPK, "header": "P0TE00E", "key": SAMPLE_KEY,
                            "padding": padding}, ["Padding"]))
-    for told, key in (("zeros", bytes(16)), ("ones", b"\xFF" * 24), ("equal halves", b"\x5B" * 16)):
+    for told, secret in (
+            ("zeros", bytes(16)), ("ones", b"\xFF" * 24), ("equal halves", b"\x5B" * 16)):
         cases.append(Case(f"a key of {told}",
-                          {"kbpk": SAMPLE_KBPK, "header": "P0TE00E", "key": key,
+                          {"kbpk": SAMPLE_KBPK, "header": "P0TE00E", "key": secret,
                            "padding": draw.bytes(6)}, ["EqualHalves"]))
     return Group("wrap", "Header fields are taken as they are.", BLOCK, cases)
 

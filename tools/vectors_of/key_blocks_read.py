@@ -61,7 +61,7 @@ def unwrap_headers(seal: Sealer, draw: Draw) -> Group:
     return Group("unwrap", "Header fields are given as they are.", BLOCK, cases)
 
 
-def optional_blocks() -> list[tuple[str, tuple[str, ...], ...]]:
+def optional_blocks() -> list[tuple[str, tuple[str, ...]] | tuple[str, tuple[str, ...], str]]:
     """What optional blocks there are, they, and whether only this project takes them."""
     one, two = optional_block("KS", "FFFF9876543210E00000"), optional_block("LB", "a label")
     return [("a key set identifier", (one,)), ("a label with small letters", (two,)),

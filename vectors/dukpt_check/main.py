@@ -228,7 +228,7 @@ def main(given: Optional[Sequence[str]] = None) -> int:
     """Runs the command, and gives its status."""
     words = read_words(given)
     for stream in (sys.stdout, sys.stderr):
-        stream.reconfigure(errors="backslashreplace")  # type: ignore[union-attr]
+        stream.reconfigure(errors="backslashreplace")  # type: ignore[attr-defined, union-attr]
     try:
         cases, left_out = chosen(words)
         if words.list:
