@@ -3,3 +3,4 @@ mod agreement
 mod numbers
 mod accepted
 mod calm_stores
+mod way_out

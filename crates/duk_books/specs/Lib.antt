@@ -29,4 +29,5 @@ pub mod Completed
 pub mod Told
 pub mod Calm
 pub mod StolenTill
+pub mod WayOut
 pub mod inner

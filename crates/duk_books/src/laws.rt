@@ -13,6 +13,7 @@ ghost use Rattle.duk_term.specs.Loading.{WrapsInitialKey};
 ghost use Rattle.duk_term.specs.declared.state.Pending.{Pending};
 ghost use Rattle.duk_term.specs.declared.state.State.{State};
 ghost use Rattle.duk_term.specs.declared.state.State.TheVariants.{Loaded};
+ghost use Rattle.duk_tree.specs.Serial.{Serial};
 ghost use Rattle.duk_books.specs.AcceptedOnce.{AcceptedOnce, HaveOneReply, KeepsAccepted};
 ghost use Rattle.duk_books.specs.Agree.{BooksAgree};
 ghost use Rattle.duk_books.specs.Books.{BooksOf, meanings_of};
@@ -33,6 +34,7 @@ ghost use Rattle.duk_books.specs.Sent.{SentByOwners};
 ghost use Rattle.duk_books.specs.StolenTill.{HasImage, HasMemory, ShowsRegisters, StandAlike, TerminalsStandAlike, WaitsWithItsReplyKey};
 ghost use Rattle.duk_books.specs.Told.{HasWhatWasTold};
 ghost use Rattle.duk_books.specs.Totals.{TotalsAgree};
+ghost use Rattle.duk_books.specs.WayOut.{HasWayOut, IsAtRestAt, IsOpenAt, IsUndoneAt, OpenNumbersAreUsed, ReportsNoWear, way_out_of};
 ghost use Rattle.duk_books.specs.declared.event.End.{End};
 ghost use Rattle.duk_books.specs.declared.event.Event.{Event};
 ghost use Rattle.duk_books.specs.declared.outcome.Outcome.{Outcome};
@@ -360,6 +362,46 @@ pub fn calm_restarts<C: Cell, B: Cell, J: Journal, I: Issuer>()
     duk_frame::laws::payments();
     duk_reversal::laws::one_reading();
     duk_reversal::laws::apart_from_payments();
+    duk_line::laws::new_numbers();
+    duk_line::laws::one_reply();
+}
+
+/// No till is stuck but for the causes that are named here. From all that is reached, where all stores
+/// are sound and calm, each till with a number left comes to rest by five events, where the host has
+/// room for a record, no memory is refused and no store is reported as worn: the till and the host are
+/// restarted, the till reverses, its frame goes up, and the answer comes down. A purchase that was open
+/// is then undone.
+///
+/// While a purchase is open, or may be after a restart, the till's registers used its number, so that
+/// the till may reverse it.
+pub fn way_out<C: Cell, B: Cell, J: Journal, I: Issuer>()
+    ensures open_number_is_used { let m = meanings_of C.meaning B.meaning J.meaning I.decides in
+        (books : BooksOf C B J I) → Reached m books → OpenNumbersAreUsed m books.tills }
+    ensures at_rest { let m = meanings_of C.meaning B.meaning J.meaning I.decides in
+        (old new : BooksOf C B J I) (t : ℕ) (outcomes : List Outcome) → Reached m old
+        → HasWayOut m old t → Run m old (way_out_of old t) outcomes new
+        → All ReportsNoWear outcomes → IsAtRestAt new.tills t }
+    ensures undone { let m = meanings_of C.meaning B.meaning J.meaning I.decides in
+        (old new : BooksOf C B J I) (t : ℕ) (outcomes : List Outcome) (ksn : Serial)
+        → Reached m old → HasWayOut m old t → IsOpenAt old.tills t ksn
+        → Run m old (way_out_of old t) outcomes new
+        → All ReportsNoWear outcomes → IsUndoneAt new.tills t ksn }
+{
+    stolen_till::<C, B, J, I>();
+    own_key_of_requests::<C, B, J, I>();
+    no_used_key::<C, B, J, I>();
+    duk_till::laws::one_reading();
+    duk_term::laws::requests::<C>();
+    duk_term::laws::reversals::<C>();
+    duk_term::laws::found_again();
+    duk_regs::laws::transactions();
+    duk_tree::laws::bits();
+    duk_tree::laws::prefixes();
+    duk_frame::laws::one_reading();
+    duk_frame::laws::payments();
+    duk_reversal::laws::one_reading();
+    duk_reversal::laws::apart_from_payments();
+    duk_reversal::laws::authentic();
     duk_line::laws::new_numbers();
     duk_line::laws::one_reply();
 }

@@ -86,6 +86,11 @@ abbrev pub IsLasting : Call → Type 0
 IsLasting Stop = ⊥
 IsLasting _ = Unit {0}
 
+-- it begins no purchase
+abbrev pub IsNoBegin : Call → Type 0
+IsNoBegin (Begin purchase result) = ⊥
+IsNoBegin _ = Unit {0}
+
 -- ---- books
 
 module _ {B : Type 0} (book : CellMeaning B) (old new : B) (honest : (book.state_of old).honest) where
@@ -123,23 +128,27 @@ module _ {B : Type 0} (book : CellMeaning B) (old new : B) (honest : (book.state
   found_again last is = found_before (λ kept found. subst (book.state_of old).found (sym ((is.cell.settles.finds honest kept).0 found)) (is.cell.was_found honest))
 
 module _ {C B J I : Type 0} (m : Meanings C B J I) (numbers : NumberLaws) (reading : OneReading) (old new : TillOf C B) (honest : (m.book.state_of old.book).honest) where
-  -- what may be open was before, or begins
+  -- what may be open was before
+  abbrev pub StaysOpen : Type 0
+  StaysOpen = (ksn : Serial) → MayBeOpen m new ksn → MayBeOpen m old ksn
+
+  -- or begins
   abbrev CameToBeOpen : Type 0
   CameToBeOpen = (ksn : Serial) → MayBeOpen m new ksn → MayBeOpen m old ksn ⊎ Opens old.terminal ksn
 
   -- a till that goes on, or stops, with a book that may find no more
-  goes_on : ((ksn : Serial) → MayFindOpen m.book new.book ksn → MayFindOpen m.book old.book ksn) → (new.state ≡ old.state) ⊎ (new.state ≡ Stopped) → CameToBeOpen
-  goes_on fewer (inl same) ksn (inl is) = inl (inl (is.0, sym same ∙ is.1))
+  goes_on : ((ksn : Serial) → MayFindOpen m.book new.book ksn → MayFindOpen m.book old.book ksn) → (new.state ≡ old.state) ⊎ (new.state ≡ Stopped) → StaysOpen
+  goes_on fewer (inl same) ksn (inl is) = inl (is.0, sym same ∙ is.1)
   goes_on fewer (inr stopped) ksn (inl is) = absurd (stopped_is_not_running new.state (Some (Open ksn is.0)) stopped is.1)
-  goes_on fewer state ksn (inr found) = inl (inr (fewer ksn found))
+  goes_on fewer state ksn (inr found) = inr (fewer ksn found)
 
-  same_till : new ≡ old → CameToBeOpen
-  same_till same ksn is = inl (subst (λ (it : TillOf C B). MayBeOpen m it ksn) same is)
+  pub same_till : new ≡ old → StaysOpen
+  same_till same ksn is = subst (λ (it : TillOf C B). MayBeOpen m it ksn) same is
 
   same_found : new.book ≡ old.book → (ksn : Serial) → MayFindOpen m.book new.book ksn → MayFindOpen m.book old.book ksn
   same_found same ksn is = subst (λ it. MayFindOpen m.book it ksn) same is
 
-  with_same_book : SameBook old new → CameToBeOpen
+  pub with_same_book : SameBook old new → StaysOpen
   with_same_book same = goes_on (same_found same.book_is) (inl same.state_is)
 
   -- the purchase that was open is done or undone
@@ -150,7 +159,7 @@ module _ {C B J I : Type 0} (m : Meanings C B J I) (numbers : NumberLaws) (readi
   undone_closes bytes found is = closes m.book old.book new.book honest (Undone is.reversed) new.state (undone_closed is.reversed) is.kept is.state_is
 
   -- the till is stopped, where the book may have kept one that is not open
-  loses : (last : Last) (why : StoreFault) → IsNotOpen last → PutFailed m.book old.book new.book (last_bytes last) why → new.state ≡ Stopped → CameToBeOpen
+  loses : (last : Last) (why : StoreFault) → IsNotOpen last → PutFailed m.book old.book new.book (last_bytes last) why → new.state ≡ Stopped → StaysOpen
   loses last why closed failed stopped = goes_on (not_opened m.book old.book new.book honest last why closed failed) (inr stopped)
 
   -- ---- a purchase begins
@@ -188,38 +197,38 @@ module _ {C B J I : Type 0} (m : Meanings C B J I) (numbers : NumberLaws) (readi
   ]
 
   begin_refused : (purchase : Purchase) (why : TillFault) → TillBeginRefused m.cell m.book purchase old new why → CameToBeOpen
-  begin_refused purchase fault.Stopped is = same_till is.1
-  begin_refused purchase fault.Open is = same_till is.1
+  begin_refused purchase fault.Stopped is = λ ksn is_open. inl (same_till is.1 ksn is_open)
+  begin_refused purchase fault.Open is = λ ksn is_open. inl (same_till is.1 ksn is_open)
   begin_refused purchase fault.NothingOpen is = absurd is
   begin_refused purchase (fault.Terminal why) is = elim is.1 [
-    | inl spent ↦ same_till spent.2
-    | inr refused ↦ with_same_book refused.1
+    | inl spent ↦ (λ ksn is_open. inl (same_till spent.2 ksn is_open))
+    | inr refused ↦ (λ ksn is_open. inl (with_same_book refused.1 ksn is_open))
   ]
   begin_refused purchase (fault.Store why) is = lost purchase why is
 
   -- ---- other calls
 
-  reverse_refused : (why : TillFault) → TillReverseRefused m.cell old new why → CameToBeOpen
+  reverse_refused : (why : TillFault) → TillReverseRefused m.cell old new why → StaysOpen
   reverse_refused fault.Stopped is = same_till is.1
   reverse_refused fault.NothingOpen is = same_till is.1
   reverse_refused (fault.Terminal why) is = with_same_book is.1
   reverse_refused _ is = absurd is
 
-  reply_refused : (bytes : List ℕ) (why : TillFault) → TillReplyRefused m.book bytes old new why → CameToBeOpen
+  reply_refused : (bytes : List ℕ) (why : TillFault) → TillReplyRefused m.book bytes old new why → StaysOpen
   reply_refused bytes fault.Stopped is = same_till is.1
   reply_refused bytes fault.Open is = absurd is
   reply_refused bytes fault.NothingOpen is = same_till is.1
   reply_refused bytes (fault.Terminal why) is = same_till is.1
   reply_refused bytes (fault.Store why) is = loses (outcome_of is.ksn is.amount is.code) why (outcome_closed is.ksn is.amount is.code) is.not_kept.not_kept is.not_kept.stopped
 
-  reversal_reply_refused : (bytes : List ℕ) (why : TillFault) → TillReversalReplyRefused m.book bytes old new why → CameToBeOpen
+  reversal_reply_refused : (bytes : List ℕ) (why : TillFault) → TillReversalReplyRefused m.book bytes old new why → StaysOpen
   reversal_reply_refused bytes fault.Stopped is = same_till is.1
   reversal_reply_refused bytes fault.Open is = absurd is
   reversal_reply_refused bytes fault.NothingOpen is = same_till is.1
   reversal_reply_refused bytes (fault.Terminal why) is = same_till is.1
   reversal_reply_refused bytes (fault.Store why) is = loses (Undone is.reversed) why (undone_closed is.reversed) is.not_kept.not_kept is.not_kept.stopped
 
-  load_refused : (asked : Loading) (why : TillFault) → TillLoadRefused m.cell asked old new why → CameToBeOpen
+  load_refused : (asked : Loading) (why : TillFault) → TillLoadRefused m.cell asked old new why → StaysOpen
   load_refused asked fault.Stopped is = same_till is.1
   load_refused asked fault.Open is = same_till is.1
   load_refused asked (fault.Terminal why) is = with_same_book is.2
@@ -227,12 +236,12 @@ module _ {C B J I : Type 0} (m : Meanings C B J I) (numbers : NumberLaws) (readi
 
   -- ---- restarts
 
-  restart_finds : (last : Option Last) → FoundLast m.book old.book new.book last → new.state ≡ Running last → CameToBeOpen
+  restart_finds : (last : Option Last) → FoundLast m.book old.book new.book last → new.state ≡ Running last → StaysOpen
   restart_finds last is runs ksn (inl is_open) =
-      inl (inr (found_there m.book old.book new.book honest last is.fields (is.cell.was_found honest) ksn is_open.0 (same_last new.state last (Some (Open ksn is_open.0)) runs is_open.1)))
-  restart_finds last is runs ksn (inr found) = inl (inr (found_again m.book old.book new.book honest last is ksn found))
+      inr (found_there m.book old.book new.book honest last is.fields (is.cell.was_found honest) ksn is_open.0 (same_last new.state last (Some (Open ksn is_open.0)) runs is_open.1))
+  restart_finds last is runs ksn (inr found) = inr (found_again m.book old.book new.book honest last is ksn found)
 
-  restart_done : IsTillRestarted m.cell m.book old new → CameToBeOpen
+  restart_done : IsTillRestarted m.cell m.book old new → StaysOpen
   restart_done is = restart_finds is.last is.found is.state_is
 
   book_failed : (why : StoreFault) → BookRestartFailed m.book old.book new.book why → (ksn : Serial) → MayFindOpen m.book new.book ksn → MayFindOpen m.book old.book ksn
@@ -240,28 +249,40 @@ module _ {C B J I : Type 0} (m : Meanings C B J I) (numbers : NumberLaws) (readi
   book_failed why (inr (damaged, none)) ksn found =
       found_before m.book old.book new.book honest (λ kept finds. subst (m.book.state_of old.book).found (sym ((none.cell.settles.finds honest kept).0 finds)) (none.cell.was_found honest)) ksn found
 
-  restart_refused : (why : TillFault) → TillRestartRefused m.cell m.book old new why → CameToBeOpen
+  restart_refused : (why : TillFault) → TillRestartRefused m.cell m.book old new why → StaysOpen
   restart_refused (fault.Terminal why) is = goes_on (same_found is.1) (inr is.2)
   restart_refused (fault.Store why) is = goes_on (book_failed why is.1) (inr is.2)
   restart_refused _ is = absurd is
 
   -- ---- each call
 
+  -- a call that is no begin opens nothing
+  pub stays_open : (call : Call) → IsLasting call → IsNoBegin call → IsCalled m.cell m.book call old new → StaysOpen
+  stays_open (Begin purchase result) lasts other is = absurd other
+  stays_open (Reverse (Ok it)) lasts other is = with_same_book is.same_book
+  stays_open (Reverse (Err why)) lasts other is = reverse_refused why is
+  stays_open (Reply bytes (Ok (answer.Done why))) lasts other is = λ ksn is_open. absurd (done_closes bytes why is ksn is_open)
+  stays_open (Reply bytes (Ok (answer.Refused reason))) lasts other is = same_till is.same
+  stays_open (Reply bytes (Err why)) lasts other is = reply_refused bytes why is
+  stays_open (ReversalReplyCall bytes (Ok (reversal.Done found))) lasts other is = λ ksn is_open. absurd (undone_closes bytes found is ksn is_open)
+  stays_open (ReversalReplyCall bytes (Ok (reversal.Refused reason))) lasts other is = same_till is.same
+  stays_open (ReversalReplyCall bytes (Err why)) lasts other is = reversal_reply_refused bytes why is
+  stays_open (Restart (Ok told)) lasts other is = restart_done is.0
+  stays_open (Restart (Err why)) lasts other is = restart_refused why is
+  stays_open (Load asked (Ok done)) lasts other is = with_same_book is.same_book
+  stays_open (Load asked (Err why)) lasts other is = load_refused asked why is
+  stays_open (ArmTerminal steps) lasts other is = with_same_book is.same_book
+  stays_open (ArmBook steps) lasts other is = goes_on (found_before m.book old.book new.book honest (λ kept found. (is.stays.found honest kept).0 found)) (inl is.state)
+  stays_open Stop lasts other is = absurd lasts
+
   pub called_open : (call : Call) → IsLasting call → IsCalled m.cell m.book call old new → CameToBeOpen
   called_open (Begin purchase (Ok it)) lasts is = begins purchase it.ksn it.frame.items is.terminal is.kept is.state_is
   called_open (Begin purchase (Err why)) lasts is = begin_refused purchase why is
-  called_open (Reverse (Ok it)) lasts is = with_same_book is.same_book
-  called_open (Reverse (Err why)) lasts is = reverse_refused why is
-  called_open (Reply bytes (Ok (answer.Done why))) lasts is = λ ksn is_open. absurd (done_closes bytes why is ksn is_open)
-  called_open (Reply bytes (Ok (answer.Refused reason))) lasts is = same_till is.same
-  called_open (Reply bytes (Err why)) lasts is = reply_refused bytes why is
-  called_open (ReversalReplyCall bytes (Ok (reversal.Done found))) lasts is = λ ksn is_open. absurd (undone_closes bytes found is ksn is_open)
-  called_open (ReversalReplyCall bytes (Ok (reversal.Refused reason))) lasts is = same_till is.same
-  called_open (ReversalReplyCall bytes (Err why)) lasts is = reversal_reply_refused bytes why is
-  called_open (Restart (Ok told)) lasts is = restart_done is.0
-  called_open (Restart (Err why)) lasts is = restart_refused why is
-  called_open (Load asked (Ok done)) lasts is = with_same_book is.same_book
-  called_open (Load asked (Err why)) lasts is = load_refused asked why is
-  called_open (ArmTerminal steps) lasts is = with_same_book is.same_book
-  called_open (ArmBook steps) lasts is = goes_on (found_before m.book old.book new.book honest (λ kept found. (is.stays.found honest kept).0 found)) (inl is.state)
   called_open Stop lasts is = absurd lasts
+  called_open (Reply bytes result) lasts is = λ ksn is_open. inl (stays_open (Reply bytes result) lasts tt is ksn is_open)
+  called_open (Reverse result) lasts is = λ ksn is_open. inl (stays_open (Reverse result) lasts tt is ksn is_open)
+  called_open (ReversalReplyCall bytes result) lasts is = λ ksn is_open. inl (stays_open (ReversalReplyCall bytes result) lasts tt is ksn is_open)
+  called_open (Restart result) lasts is = λ ksn is_open. inl (stays_open (Restart result) lasts tt is ksn is_open)
+  called_open (Load asked result) lasts is = λ ksn is_open. inl (stays_open (Load asked result) lasts tt is ksn is_open)
+  called_open (ArmTerminal steps) lasts is = λ ksn is_open. inl (stays_open (ArmTerminal steps) lasts tt is ksn is_open)
+  called_open (ArmBook steps) lasts is = λ ksn is_open. inl (stays_open (ArmBook steps) lasts tt is ksn is_open)

@@ -196,7 +196,7 @@ module _ {C B J I : Type 0} (m : Meanings C B J I) (laws : BookLaws m) (old : Bo
         | inr begins ↦ opens_owned t is.before ksn is.at begins
       ])
 
-  hold_after : (new : BooksOf C B J I) → Change m old new → PurchasesHold m new
+  pub hold_after : (new : BooksOf C B J I) → Change m old new → PurchasesHold m new
   hold_after new change = record {
     holds = holds_after m laws old safe.holds.0 safe.holds.1 new change;
     asked = asked_after new change;
@@ -267,11 +267,11 @@ module _ {C B J I : Type 0} (m : Meanings C B J I) (laws : BookLaws m) (old : Bo
 
 -- ---- in all that is reached
 
-first_open : {C B J I : Type 0} (m : Meanings C B J I) (till : TillOf C B) (ksn : Serial) → IsNewTill m till → ¬ MayBeOpen m till ksn
+pub first_open : {C B J I : Type 0} (m : Meanings C B J I) (till : TillOf C B) (ksn : Serial) → IsNewTill m till → ¬ MayBeOpen m till ksn
 first_open m till ksn is (inl is_open) = stopped_is_not_running till.state (Some (Open ksn is_open.0)) is.stopped is_open.1
 first_open m till ksn is (inr found) = none_is_no_body found.body ((is.book.finds (Some found.body)).0 found.found)
 
-first_hold : {C B J I : Type 0} (m : Meanings C B J I) (books : BooksOf C B J I) → IsFirst m books → PurchasesHold m books
+pub first_hold : {C B J I : Type 0} (m : Meanings C B J I) (books : BooksOf C B J I) → IsFirst m books → PurchasesHold m books
 first_hold m books is = record {
   holds = first_holds m books is;
   asked = λ ksn undone. absurd (none_in undone.frame (subst (λ list. Contains list undone.frame) is.no_answers undone.sent));

@@ -28,8 +28,8 @@ use Rattle.duk_reversal.specs.declared.reversal.Reversal as reversal_frame
 use Rattle.duk_tree.specs.Serial.{IsSerial, Serial}
 use Rattle.duk_books.specs.AcceptedOnce.{HasPayment}
 use Rattle.duk_books.specs.Books.{Frame, Meanings}
-use Rattle.duk_books.specs.Came.{AreAskedFor, IsAsked, IsAskedFor}
-use Rattle.duk_books.proofs.agreement.Facts.{IsCalledBack, IsRepliedTo, IsUndoneBy, asked_before, none_in, reversed_before, the_one, the_only}
+use Rattle.duk_books.specs.Came.{AreAskedFor, IsAskedFor}
+use Rattle.duk_books.proofs.agreement.Facts.{IsRepliedTo, IsUndoneBy, asked_before, none_in, reversed_before, the_one, the_only}
 use Rattle.duk_books.proofs.moves.HostFinds.{HostFinds, answered_by, answered_finds, refused_finds, touched_finds}
 use Rattle.duk_books.proofs.moves.StepChanges.{TouchesHost}
 
@@ -110,7 +110,7 @@ flat_in f (first ∷ things) thing other is_in has = elim (Contains-append_cases
   | inr later ↦ Contains-append_right (f first) (flat_map f things) other (flat_in f things thing other later has)
 ]
 
-flat_from : {A B : Type 0} (f : A → List B) (things : List A) (other : B) → Contains (flat_map f things) other → (thing : A) × Contains things thing × Contains (f thing) other
+pub flat_from : {A B : Type 0} (f : A → List B) (things : List A) (other : B) → Contains (flat_map f things) other → (thing : A) × Contains things thing × Contains (f thing) other
 flat_from f [] other has = absurd (none_in other has)
 flat_from f (first ∷ things) other has = elim (Contains-append_cases (f first) (flat_map f things) other has) [
   | inl here ↦ (first, Contains-append_left (first ∷ []) things first (the_one first), here)

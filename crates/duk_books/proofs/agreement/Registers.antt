@@ -50,7 +50,7 @@ next_is_above counter next fits after = elim after [
   | inr last ↦ omega (arith, fits, last.1)
 ]
 
-above_taken : NumberLaws → (set left : RegisterSet) (key : List ℕ) → TakesNumber set key left → set.counter < left.counter
+pub above_taken : NumberLaws → (set left : RegisterSet) (key : List ℕ) → TakesNumber set key left → set.counter < left.counter
 above_taken laws set left key takes = next_is_above set.counter left.counter (laws.fits set.counter takes.usable) takes.taken.next_counter
 
 pub behind_left : NumberLaws → (set left : RegisterSet) (key : List ℕ) (ksn : Serial) → TakesNumber set key left → IsBehind ksn set → IsBehind ksn left

@@ -43,7 +43,7 @@ as_many : {A : Type 0} (t : ℕ) (P : A → A → Type 0) (old new : List A) →
 as_many t P old new acts = ap length acts.others ∙ length-set old acts.place acts.after
 
 -- one that is there is not missing
-not_missing : {A : Type 0} (things : List A) (number : ℕ) → HasOne things number → ¬ HasNone things number
+pub not_missing : {A : Type 0} (things : List A) (number : ℕ) → HasOne things number → ¬ HasNone things number
 not_missing things number one (inl none) = omega (arith, none, one.number_is)
 not_missing things number one (inr past) = omega (arith, past, one.number_is, one.within)
 

@@ -1,0 +1,6 @@
+-- How a till comes to rest again.
+pub mod OpenIsUsed
+pub mod Ups
+pub mod HostReverses
+pub mod TillReverses
+pub mod WayOut
