@@ -6,11 +6,32 @@ import shutil
 import tempfile
 import unittest
 from pathlib import Path
-from typing import Any, ClassVar
+from typing import Any, Callable, ClassVar, Iterable, TypeVar
 
 from .program import Ended, Program, built, demand_built, short
 
 MEMORY = Path("/dev/shm")
+Test = TypeVar("Test", bound=Callable[..., None])
+
+
+def in_parts(count: int) -> Callable[[Test], Test]:
+    """Marks a test that runs so many times, each with draws of its own and beside the others. The
+    runner counts the parts, and numbers their names: `test_lines_1`, `test_lines_2`."""
+    def marked(test: Test) -> Test:
+        setattr(test, "parts", range(1, count + 1))
+        return test
+
+    return marked
+
+
+def parts_of(test: Callable[..., None]) -> Iterable[int]:
+    """The numbers of a test's parts, or 0 where it is whole."""
+    return getattr(test, "parts", (0,))
+
+
+def name_of(test: str, part: int) -> str:
+    """MODULE.CASE.TEST, whichever folders the module stands in, with the number of a part."""
+    return ".".join(test.split(".")[-3:]) + (f"_{part}" if part else "")
 
 
 class Case(unittest.TestCase):
@@ -20,10 +41,16 @@ class Case(unittest.TestCase):
     seed: ClassVar[int] = 0
     # How many times as much a test tries as in the gate: of worlds, kills and the like.
     times: ClassVar[int] = 1
+    # Which part of the test this is, or 0 where it is whole.
+    part = 0
     maxDiff = 2000
 
+    @property
+    def name(self) -> str:
+        return name_of(self.id(), self.part)
+
     def setUp(self) -> None:
-        self.chance = random.Random(f"{self.seed} {self.id()}")
+        self.chance = random.Random(f"{self.seed} {self.name}")
         self.told: list[str] = []
 
     def tells(self, text: str) -> None:
@@ -50,7 +77,7 @@ class ProgramCase(Case):
 
     def own_chance(self) -> random.Random:
         """What is drawn for this program alone: of another one it is something else."""
-        return random.Random(f"{self.seed} {self.id()} {self.program.name}")
+        return random.Random(f"{self.seed} {self.name} {self.program.name}")
 
     def assert_ended(
         self,

@@ -3,9 +3,11 @@
 Each test of the built program runs on each PROGRAM. With none it takes those that the gate leaves:
 crates/dukpt/out/dukpt, and dukpt.by-rattle where it stands beside it. `-k` takes the tests whose
 name has NAME in it, as `worlds` or `test_commands`; it may be given several times. What is random
-comes of the seed, which is printed: the same seed draws the same again. `--times 100` tries a
-hundred times as many worlds and kills. Tests run beside one another, as many as there are
-processors. All run, and then it fails if one did. It ends with `N passed, M failed`.
+comes of the seed, which is printed: the same seed draws the same again. Without `--seed`, or with
+`--seed random`, a new one is drawn. `.ci/run` takes the first eight digits of the commit, so that a
+commit has the same verdict twice. `--times 100` tries a hundred times as many worlds and kills.
+Tests run beside one another, as many as there are processors. All run, and then it fails if one did.
+It ends with `N passed, M failed`.
 """
 from __future__ import annotations
 
@@ -14,27 +16,35 @@ import importlib
 import io
 import multiprocessing
 import os
-import pkgutil
 import random
 import sys
 import time
 import unittest
 from concurrent.futures import ProcessPoolExecutor, as_completed
-from dataclasses import dataclass
+from dataclasses import dataclass, replace
+from pathlib import Path
 from typing import Iterator, Optional
 
-from .. import __name__ as package, __path__ as parts
-from .case import Case, ProgramCase
-from .program import NotBuilt, Program, programs
+from .case import Case, ProgramCase, name_of, parts_of
+from .program import ROOT, NotBuilt, Program, programs
+
+TESTS = ROOT / "tests"
+
+
+class TwiceNamed(Exception):
+    """That two modules of tests have one name."""
 
 
 @dataclass(frozen=True)
 class Job:
-    """A test, and the program that it is run on, if it is one of a program."""
+    """A test or one of its parts, and the program that it is run on, if it is one of a program."""
 
+    # With its folders, as it is imported.
     module: str
     case: str
     test: str
+    # From 1, where the test has several.
+    part: int
     program: Optional[Program]
     # How long it may take, for the order in which they begin.
     weight: int
@@ -43,7 +53,7 @@ class Job:
 
     @property
     def name(self) -> str:
-        return f"{self.module}.{self.case}.{self.test}"
+        return name_of(f"{self.module}.{self.case}.{self.test}", self.part)
 
     def __str__(self) -> str:
         return f"{self.name} on {self.program.name}" if self.program else self.name
@@ -58,39 +68,54 @@ class Outcome:
     seconds: float
 
 
+def modules(tests: Path = TESTS) -> list[str]:
+    """The modules `test_*`, in whichever folder each stands, by their own names."""
+    found = sorted(tests.rglob("test_*.py"), key=lambda it: it.stem)
+    for one, other in zip(found, found[1:]):
+        if one.stem == other.stem:
+            raise TwiceNamed(f"{one.relative_to(tests)} and {other.relative_to(tests)} have one name")
+    return [".".join(it.relative_to(tests.parent).with_suffix("").parts) for it in found]
+
+
 def cases() -> Iterator[type[Case]]:
-    """The classes of tests of all modules `test_*`."""
-    for found in pkgutil.iter_modules(parts):
-        if found.name.startswith("test_"):
-            module = importlib.import_module(f"{package}.{found.name}")
-            for it in vars(module).values():
-                if isinstance(it, type) and issubclass(it, Case) and it.__module__ == module.__name__:
-                    yield it
+    """The classes of tests of all modules."""
+    for name in modules():
+        module = importlib.import_module(name)
+        for it in vars(module).values():
+            if isinstance(it, type) and issubclass(it, Case) and it.__module__ == module.__name__:
+                yield it
+
+
+def jobs_of(case: type[Case]) -> Iterator[Job]:
+    """The tests of a class, in all their parts."""
+    for test in unittest.TestLoader().getTestCaseNames(case):
+        for part in parts_of(getattr(case, test)):
+            yield Job(case.__module__, case.__name__, test, part, None, getattr(case, "weight", 1))
 
 
 def jobs(names: list[str], given: list[str]) -> list[Job]:
     """The tests that are to run, the longest first."""
-    found, tried = [], None
+    found: list[Job] = []
+    tried: Optional[list[Program]] = None
     for case in cases():
-        for test in unittest.TestLoader().getTestCaseNames(case):
-            module, weight = case.__module__.rpartition(".")[2], getattr(case, "weight", 1)
-            job = Job(module, case.__name__, test, None, weight)
+        for job in jobs_of(case):
             if names and not any(name in job.name for name in names):
                 continue
             if not issubclass(case, ProgramCase):
                 found.append(job)
                 continue
             tried = programs(given) if tried is None else tried
-            found += [Job(module, case.__name__, test, it, weight, len(tried)) for it in tried]
+            found += [replace(job, program=it, programs=len(tried)) for it in tried]
     return sorted(found, key=lambda it: -it.weight)
 
 
 def run(job: Job, seed: int, times: int) -> Outcome:
     """Runs a test, in a process of the pool."""
     began = time.monotonic()
-    case = getattr(importlib.import_module(f"{package}.{job.module}"), job.case)
+    case = getattr(importlib.import_module(job.module), job.case)
     Case.seed, Case.times = seed, times
     test = case(job.test)
+    test.part = job.part
     if job.program:
         test.program, test.programs = job.program, job.programs
     result = unittest.TestResult()
@@ -104,11 +129,19 @@ def run(job: Job, seed: int, times: int) -> Outcome:
     return Outcome("\n".join(faults), "; ".join(getattr(test, "told", [])), time.monotonic() - began)
 
 
+def seed_of(word: str) -> int:
+    if word == "random":
+        return random.SystemRandom().randrange(1 << 32)
+    if not word.isdecimal():
+        raise argparse.ArgumentTypeError(f"{word!r} is no number, and not `random`")
+    return int(word)
+
+
 def read_words() -> argparse.Namespace:
     reader = argparse.ArgumentParser(
         prog="tools/test", description=__doc__, formatter_class=argparse.RawDescriptionHelpFormatter)
     reader.add_argument("-k", dest="names", action="append", default=[])
-    reader.add_argument("--seed", type=int, default=random.SystemRandom().randrange(1 << 32))
+    reader.add_argument("--seed", type=seed_of, default="random", metavar="NUMBER|random")
     reader.add_argument("--times", type=int, default=1)
     reader.add_argument("--jobs", type=int, default=len(os.sched_getaffinity(0)))
     reader.add_argument("program", nargs="*")
@@ -119,8 +152,8 @@ def main() -> int:
     words = read_words()
     try:
         todo = jobs(words.names, words.program)
-    except NotBuilt as missing:
-        print(f"test: {missing}", file=sys.stderr)
+    except (NotBuilt, TwiceNamed) as why:
+        print(f"test: {why}", file=sys.stderr)
         return 1
     print(f"test: --seed {words.seed}", flush=True)
     failed = 0
