@@ -25,7 +25,7 @@ from timing import ROOT
 
 sys.path.insert(0, ROOT)
 
-from tests.support.journal_file import records_for  # noqa: E402
+from tests.support.formats.journal_file import records_for  # noqa: E402
 
 # The bytes of each request, of the reply to it, and of a record of a log.
 REQUEST, REPLY, LOG_RECORD = 48, 24, 16

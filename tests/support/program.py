@@ -12,7 +12,7 @@ from typing import Callable, Iterable, Optional, Sequence, Union
 from .listing import Word, only_own_files
 
 ROOT = Path(__file__).resolve().parents[2]
-COMMANDS = ROOT / "tests" / "commands"
+COMMANDS = ROOT / "tests" / "data" / "commands"
 SECONDS = 120
 
 

@@ -23,8 +23,8 @@ def of_texts(root: Path) -> dict[str, str]:
 
 def of_page() -> dict[str, str]:
     """Those that the page draws: Chromium and its driver are wanted for them alone."""
-    from tests.support.browser import Browser, BrowserFault
-    from tests.support.stage_pictures import PAGE, pictures
+    from tests.support.page.browser import Browser, BrowserFault
+    from tests.support.page.stage_pictures import PAGE, pictures
     try:
         with Browser() as browser:
             made: dict[str, str] = pictures(browser, PAGE)

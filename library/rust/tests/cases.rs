@@ -1,4 +1,4 @@
-//! Cases of each call out of a file, which `tests/test_library_rust.py` writes.
+//! Cases of each call out of a file, which `tests/library/test_library_rust.py` writes.
 //!
 //! A line is a call, its status, what it takes, `=`, and what it gives; bytes are in hexadecimal,
 //! `-` is none, and a number is four bytes.
@@ -270,7 +270,7 @@ fn try_line(line: &str) {
 }
 
 #[test]
-#[ignore = "the cases come of tests/test_library_rust.py"]
+#[ignore = "the cases come of tests/library/test_library_rust.py"]
 fn cases() {
     let path = env::var("DUKPT_CASES").expect("DUKPT_CASES names a file of cases");
     let lines = fs::read_to_string(path).expect("a file of cases");

@@ -125,7 +125,7 @@ fn of_key_blocks() {
 
 #[test]
 fn of_a_payload() {
-    // The payload says that its key has 8 bytes. The block was made by tests/support/key_blocks.py.
+    // The payload says that its key has 8 bytes. The block was made by tests/support/standards/key_blocks.py.
     let text = b"B0080P0TE00E00009F214D6E852C0EB1F4DC684083D90D791502E65FB225F0C3DE32E4C5108F78E4";
     refused(unwrap(&KEY, text), 19);
 }

@@ -1,0 +1,1 @@
+"""What only the crates show: through `duk_driver`, and in their sources."""

@@ -1,0 +1,1 @@
+"""`dukpt-host`, which serves many connections."""

@@ -1,0 +1,80 @@
+"""`dukpt-host` behind TLS: only clients whose certificate its authority signed are answered."""
+from __future__ import annotations
+
+import ssl
+import subprocess
+from typing import Optional
+
+from ..support.service.certificates import client_context, make_authority, make_certificate
+from ..support.service.client import payments
+from ..support.service.host import HERE, HOST, SECONDS, HostCase, at_once
+from ..support.service.journal_case import stream_of
+
+TLS = ("--tls", "host.pem", "host.key", "ours.pem")
+
+
+class Tls(HostCase):
+    weight = 5
+
+    def setUp(self) -> None:
+        super().setUp()
+        for name in ("ours", "theirs"):
+            make_authority(self.home, name)
+        for name, authority in (("host", "ours"), ("right", "ours"), ("wrong", "theirs")):
+            make_certificate(self.home, name, authority)
+        self.make_journal(400)
+
+    def answer(self, host, context: Optional[ssl.SSLContext], frame: bytes) -> Optional[bytes]:
+        """The answer to a client, or none where it is not let in."""
+        try:
+            return self.connect(host, context).ask(frame)
+        except ssl.SSLError:
+            return None
+
+    def test_certificates(self) -> None:
+        host, given = self.start_host(*TLS), payments(4)
+        right = client_context(self.home, "right")
+        self.assertEqual(self.answer(host, right, given[0].frame), given[0].answer)
+        for context in (client_context(self.home, "wrong"), client_context(self.home), None):
+            self.assertIsNone(self.answer(host, context, given[1].frame))
+        old = client_context(self.home, "right")
+        old.maximum_version = ssl.TLSVersion.TLSv1_1
+        self.assertIsNone(self.answer(host, old, given[1].frame))
+        host.told("not let in: no TLS", 4)
+        self.assertEqual(self.answer(host, right, given[2].frame), given[2].answer)
+        self.assertEqual(len(self.kept()), 2)
+        self.assertEqual(host.metrics()['dukpt_connections_refused_totalwhy="no TLS"'], 4)
+        self.assertEqual(host.stop(), 0)
+
+    def test_many(self) -> None:
+        """Answers in their order, to several at once."""
+        host, given = self.start_host(*TLS), payments(160)
+        context = client_context(self.home, "right")
+        clients = [self.connect(host, context) for _ in range(4)]
+
+        def talk(place: int) -> None:
+            own = given[place::4]
+            clients[place].send(stream_of(own))
+            self.assertEqual(clients[place].take_answers(len(own)), [it.answer for it in own])
+
+        at_once([lambda place=place: talk(place) for place in range(4)])
+        self.assertEqual(host.stop(), 0)
+
+    def test_what_is_not_started(self) -> None:
+        """An address that other machines reach wants TLS, or a word that it does not."""
+        anywhere = "0.0.0.0:0"
+        for words, why in ((("--listen", anywhere), "other machines reach 0.0.0.0:"),
+                           (("--listen", HERE, "--listen", anywhere), "other machines reach"),
+                           (("--listen", HERE, "--tls", "host.pem", "wrong.key", "ours.pem"), "TLS: "),
+                           (("--listen", HERE, "--tls", "host.pem", "host.key", "none.pem"), "TLS: ")):
+            done = self.run_host(*words)
+            self.assertEqual(done.returncode, 1, words)
+            self.assertIn(f"dukpt-host: not started: {why}", done.stderr)
+        for words in (("--listen", anywhere, "--plain"), ("--listen", anywhere, *TLS)):
+            host = self.start_host(*words)
+            host.told("serving after")
+            self.assertEqual(host.stop(), 0)
+
+    def run_host(self, *words: str) -> subprocess.CompletedProcess[str]:
+        return subprocess.run([HOST, "bank.toml", "--journal", "journal", *words], cwd=self.home,
+                              capture_output=True, text=True, timeout=SECONDS, check=False)

@@ -1,0 +1,1 @@
+"""`dukpt serve --journal` and `copy-journal`."""

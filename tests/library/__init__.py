@@ -1,0 +1,1 @@
+"""The library for other languages: its calls, its packages and its examples."""

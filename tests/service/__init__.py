@@ -1,0 +1,1 @@
+"""`dukpt serve` over a log, its scripts and its unit."""

@@ -1,0 +1,1 @@
+"""The program `duk_driver`, and the sources as trees of tokens."""

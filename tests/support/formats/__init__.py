@@ -1,0 +1,1 @@
+"""Frames, images, logs, journals, configurations and scripts, by docs/FORMATS.md."""

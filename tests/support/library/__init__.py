@@ -1,0 +1,1 @@
+"""The library in each language, and what each of its calls answers."""

@@ -1,0 +1,1 @@
+"""The independent model of terminals, tills, network, hosts and stores."""

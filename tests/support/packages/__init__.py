@@ -1,0 +1,1 @@
+"""The Debian packages and releases, as they are made and read."""

@@ -1,0 +1,1 @@
+"""The standards' ciphers, keys, MACs, PIN blocks and key blocks."""

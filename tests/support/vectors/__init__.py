@@ -1,0 +1,1 @@
+"""The answer to each test vector, and the check's adapters."""

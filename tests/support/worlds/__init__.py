@@ -1,0 +1,1 @@
+"""Worlds, scripts and streams at random, and the laws that hold of them."""

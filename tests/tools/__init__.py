@@ -1,0 +1,1 @@
+"""The commands of tools/ and bench/, `.ci/run`, and the rules of the repository."""

@@ -1,0 +1,99 @@
+"""The commands of `bench/`: a short round of each ends well, and prints its rows. Its times are not judged."""
+from __future__ import annotations
+
+import re
+import subprocess
+import sys
+import tempfile
+from pathlib import Path
+
+from ..support.case import Case
+from ..support.library.library import built_library, locked
+from ..support.program import ROOT, built, demand_built
+
+SECONDS = 600
+# What stands first in each row that times something, table by table.
+MEASURED = [
+    "walk of a whole life", "derivation from a base derivation key", "derivation, in groups",
+    "derivation of 10,000 numbers, in groups",
+    "CMAC over 64 bytes", "CMAC over 4 KiB", "retail MAC over 64 bytes", "retail MAC over 4 KiB",
+    "TDES-CBC over 1 MiB, enciphered", "TDES-CBC over 1 MiB, deciphered",
+    "10", "100", "1,000",
+    "100", "1,000",
+    "log in memory", "log in a file", "journal", "C over a journal", "journal, before",
+]
+CALLS = [
+    "derivation, `libdukpt.a`", "derivation, `libdukpt.so`", "derivation, 10,000 in a call",
+    "request checked, 1,000 in a call", "PIN block, enciphered", "retail MAC of a request",
+    "key block, unwrapped", "registers, `dukpt_registers_next`", "derivation, Python",
+]
+HOST = ["200, 1", "200, 20", "an answer, at 200 a second", "a write and its sync"]
+AFTER_A_KILL = r"^a kill over 1,000 payments: .* s to the next answer\n  the journal was .*\n  serving .*$"
+STARTS = ["in order", "every second missing"]
+# What is printed of hosts that share a journal, with the payments that are acknowledged and kept.
+REPLICAS = [
+    r"seed \d+",
+    r"200 requests at once: [\d,]+/s over the volume, [\d,]+/s over the disk below it",
+    r"cut 0, idle: host 2 answers after \d+\.\d s; then host 1: \d+ answers; .*",
+    r"  40 payments acknowledged, 40 kept",
+    r"kill 0: host 1, .* host [23] answers after \d+\.\d s; .*",
+    r"1 kills, [01] in the midst of answers: 80 payments acknowledged, 80 kept; .*",
+    r"  (link|processes) first: .*; 1 kills",
+]
+
+
+def path_of(crate: str) -> str:
+    """The program that the gate leaves of a crate."""
+    program = built(crate)[0]
+    demand_built(program)
+    return str(program.path)
+
+
+def rows(lines: list[str]) -> list[str]:
+    """The first cell of each row of the tables, without what heads them."""
+    cells = [line.split(" | ")[0].removeprefix("| ") for line in lines if line.startswith("|")]
+    heads = {at - 1 for at, cell in enumerate(cells) if cell.startswith("|--")}
+    return [it for at, it in enumerate(cells) if at not in heads and not it.startswith("|--")]
+
+
+class Benches(Case):
+    weight = 20
+
+    def lines_of(self, name: str, *words: str, shared: Path = ROOT / "out" / "benches.lock") -> list[str]:
+        """What a command prints, where it ends well. Of those that build the same files, or name the same
+        hosts, one runs at a time."""
+        with locked(shared):
+            done = subprocess.run([sys.executable, ROOT / "bench" / name, *words], capture_output=True,
+                                  text=True, timeout=SECONDS, check=False)
+        self.assertEqual((done.returncode, done.stderr), (0, ""), done.stdout)
+        return done.stdout.splitlines()
+
+    def test_measure(self) -> None:
+        dukpt = path_of("dukpt")
+        found = self.lines_of("measure", "--short", "--rounds", "1", "--program", dukpt,
+                              "--before-program", dukpt, "--bench", path_of("duk_bench"))
+        self.assertEqual(rows(found), MEASURED)
+
+    def test_library(self) -> None:
+        built_library()
+        self.assertEqual(rows(self.lines_of("library", "--rounds", "1")), CALLS)
+
+    def test_host(self) -> None:
+        found = self.lines_of("host", "--payments", "2000", "--kept", "1000", "--seconds", "1",
+                              path_of("dukpt"))
+        self.assertEqual(rows(found), HOST)
+        self.assertRegex("\n".join(found[-3:]), AFTER_A_KILL)
+
+    def test_starts(self) -> None:
+        found = self.lines_of("starts", "--rounds", "1", "--numbers", "10", path_of("dukpt"))
+        self.assertEqual(rows(found), STARTS)
+
+    def test_replicas(self) -> None:
+        """Requests for as many payments as a journal takes, a host that is cut off, and one that is
+        killed."""
+        found = self.lines_of("replicas", "--speed", "200", "--cuts", "1", "--kills", "1",
+                              "--batch", "40", "--program", path_of("dukpt"),
+                              shared=Path(tempfile.gettempdir()) / "dukpt-hosts.lock")
+        self.assertEqual(len(found), len(REPLICAS), found)
+        for line, wanted in zip(found, REPLICAS):
+            self.assertTrue(re.fullmatch(wanted, line), line)

@@ -1,0 +1,1 @@
+"""The test vectors, their check, and the bench's own ciphers, which judge them."""

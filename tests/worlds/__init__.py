@@ -1,0 +1,1 @@
+"""Whole worlds at random: scripts, streams and arguments, to the letter."""
