@@ -13,7 +13,7 @@ from pathlib import Path
 from typing import Optional, Sequence
 
 from ..service.test_service_log_calls import STEPS, acceptance, start, steps_of
-from ..support.case import ProgramCase
+from ..support.case import ProgramCase, in_parts
 from ..support.commands.commands import Refused as Fault
 from ..support.commands.everyday_cases import Case, Draw
 from ..support.commands.everyday_rows import BASE, FIRST, SERIAL
@@ -622,19 +622,8 @@ class Kills(IssueCase):
         # How long a run needs for a number, about.
         self.gap = 0.002
 
-    def test_histories_1(self) -> None:
-        self.play_histories()
-
-    def test_histories_2(self) -> None:
-        self.play_histories()
-
-    def test_histories_3(self) -> None:
-        self.play_histories()
-
-    def test_histories_4(self) -> None:
-        self.play_histories()
-
-    def play_histories(self) -> None:
+    @in_parts(4)
+    def test_histories(self) -> None:
         while self.kills < KILLS * self.times:
             self.begin_history()
             while self.kills < KILLS * self.times and len(self.kept) < ROOM:
@@ -729,10 +718,8 @@ class PowerCuts(IssueCase):
         super().setUp()
         self.cuts = self.midst = self.histories = 0
 
-    def test_histories_1(self) -> None:
-        self.play(CUTS * self.times)
-
-    def test_histories_2(self) -> None:
+    @in_parts(2)
+    def test_histories(self) -> None:
         self.play(CUTS * self.times)
 
     def test_syncs_that_do_nothing(self) -> None:

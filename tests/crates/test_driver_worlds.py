@@ -6,7 +6,7 @@ import itertools
 from collections import Counter
 from typing import Callable, Iterable
 
-from ..support.case import DriverCase
+from ..support.case import DriverCase, in_parts
 from ..support.crates.driver import NEVER, Drive, digits, random_bank_of_driver, random_habit
 from ..support.formats.images import CELL_DISK, RECORD
 from ..support.models.model_host import KEPT, Host
@@ -19,6 +19,8 @@ from ..support.worlds.worlds import Bank
 
 Scene = Callable[[Play], None]
 STOPS = (terminal_stops, host_stops)
+# So many worlds in each part of the test.
+WORLDS = 25
 TERMINALS = 3
 # A step of a disk fails within so many.
 STEPS = 150
@@ -94,25 +96,20 @@ class DrivenWorld:
 class TestWorlds(DriverCase):
     weight = 12
 
-    def try_worlds(self, count: int) -> None:
+    @in_parts(2)
+    def test_worlds(self) -> None:
         drive, tally, events, scenes = Drive(), Counter(), 0, itertools.cycle(SCENES)
-        for _ in range(count * self.times):
+        for _ in range(WORLDS * self.times):
             world = DrivenWorld(self, drive, random_bank_of_driver(self.chance))
             world.lives(next(scenes) for _ in range(3))
             world.demands()
             tally += world.play.tally
             events += len(world.play.events)
         drive.demand(self)
-        self.tells(f"{count * self.times} worlds, {events} events, "
+        self.tells(f"{WORLDS * self.times} worlds, {events} events, "
                    f"{tally['T fault Store Device'] + tally['host fault Store Device']} failures")
         missing = [kind for kind in KINDS if not tally[kind]]
         self.assertEqual(missing, [], "never came")
-
-    def test_worlds_1(self) -> None:
-        self.try_worlds(25)
-
-    def test_worlds_2(self) -> None:
-        self.try_worlds(25)
 
 
 class TestScripts(DriverCase):

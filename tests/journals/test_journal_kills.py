@@ -10,6 +10,7 @@ import signal
 import time
 from typing import Iterable
 
+from ..support.case import in_parts
 from ..support.formats.journal_records import Entry
 from ..support.models.model_journal import answers_of, payment_of
 from ..support.service.client import Exchange, payments, refused_requests
@@ -26,7 +27,7 @@ PIECES = (0, 0, 60, 400, 5000)
 
 
 class Kills(KilledRuns):
-    """Histories of killed runs; each of these tests has some, and they run beside one another."""
+    """Histories of killed runs; each part of the test has some."""
 
     weight = 8
 
@@ -34,16 +35,8 @@ class Kills(KilledRuns):
         super().setUp()
         self.histories = 0
 
-    def test_histories_1(self) -> None:
-        self.play_histories()
-
-    def test_histories_2(self) -> None:
-        self.play_histories()
-
-    def test_histories_3(self) -> None:
-        self.play_histories()
-
-    def play_histories(self) -> None:
+    @in_parts(3)
+    def test_histories(self) -> None:
         self.start_takes = self.measure_a_run(0)
         self.each_takes = max(0.0, self.measure_a_run(PAYMENTS) - self.start_takes) / PAYMENTS
         while self.kills < KILLS * self.times:

@@ -7,6 +7,7 @@ from __future__ import annotations
 
 import time
 
+from ..support.case import in_parts
 from ..support.formats.journal_records import RECORD
 from ..support.service.journal_case import JournalCase
 from ..support.service.journal_lives import ROOM, JournalLives
@@ -20,7 +21,7 @@ MOST = 5000
 
 
 class PowerCuts(JournalCase):
-    """Each of these tests has histories of its own, and they run beside one another."""
+    """Each part of the test has histories of its own."""
 
     weight = 20
 
@@ -29,13 +30,8 @@ class PowerCuts(JournalCase):
         self.addCleanup(file.close)
         return JournalLives(self.program, self.home, file, self.chance, lies)
 
-    def test_histories_1(self) -> None:
-        self.play_histories()
-
-    def test_histories_2(self) -> None:
-        self.play_histories()
-
-    def play_histories(self) -> None:
+    @in_parts(2)
+    def test_histories(self) -> None:
         lives, began = self.lives(), time.monotonic()
         lives.play(CUTS * self.times)
         self.assertGreater(5 * lives.midst, lives.cuts, "too few lives ended amid acceptances")

@@ -14,6 +14,7 @@ from dataclasses import dataclass
 from functools import lru_cache
 from typing import Optional, Sequence
 
+from ..support.case import in_parts
 from ..support.formats.frames import write_reply, write_request
 from ..support.formats.journal_records import RECORD, UNDONE, Reversal
 from ..support.models.model_journal import books_of
@@ -109,8 +110,7 @@ Sent = tuple[Exchange, Optional[Terminal]]
 
 
 class Reversals(KilledRuns):
-    """Histories of killed runs and lost connections; each of these tests has some, and they run beside
-    one another."""
+    """Histories of killed runs and lost connections; each part of the test has some."""
 
     weight = 8
 
@@ -118,13 +118,8 @@ class Reversals(KilledRuns):
         super().setUp()
         self.lost = self.undone = self.none = self.late = self.paid = 0
 
-    def test_histories_1(self) -> None:
-        self.play_histories()
-
-    def test_histories_2(self) -> None:
-        self.play_histories()
-
-    def play_histories(self) -> None:
+    @in_parts(2)
+    def test_histories(self) -> None:
         for _ in range(HISTORIES * self.times):
             self.begin_history()
             for _ in range(self.chance.randint(2, 6)):

@@ -4,6 +4,7 @@ from __future__ import annotations
 
 from typing import Sequence
 
+from ..support.case import in_parts
 from ..support.formats.journal_file import appended
 from ..support.formats.journal_records import NONE_STANDS, UNDONE, Entry, Payment, Reversal
 from ..support.models.model_journal import added_by, books_of, judged, payments_of_all
@@ -95,13 +96,8 @@ class Worlds(JournalCase):
     weight = 6
     FRAMES, NUMBERS = 4000, 3000
 
-    def test_worlds_1(self) -> None:
-        self.play()
-
-    def test_worlds_2(self) -> None:
-        self.play()
-
-    def play(self) -> None:
+    @in_parts(2)
+    def test_worlds(self) -> None:
         tally = {"payments": 0, "undone": 0, "none": 0, "again": 0}
         for _ in range(self.times):
             frames = self.frames(self.FRAMES)

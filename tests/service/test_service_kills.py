@@ -10,6 +10,7 @@ import time
 from enum import Enum
 from typing import Sequence
 
+from ..support.case import in_parts
 from ..support.formats.log_file import read_log
 from ..support.service.client import Exchange, answered, payments, refused_requests, split
 from ..support.service.service import cuts
@@ -39,7 +40,7 @@ MANNERS = (Manner.ONE_BY_ONE, Manner.SMALL, Manner.GREAT, Manner.WHOLE, Manner.W
 
 
 class Kills(ServiceCase):
-    """Histories of killed runs; each of these tests has some, and they run beside one another."""
+    """Histories of killed runs; each part of the test has some."""
 
     weight = 6
 
@@ -47,19 +48,8 @@ class Kills(ServiceCase):
         super().setUp()
         self.kills = self.midst = self.unread = self.histories = self.again = 0
 
-    def test_histories_1(self) -> None:
-        self.play_histories()
-
-    def test_histories_2(self) -> None:
-        self.play_histories()
-
-    def test_histories_3(self) -> None:
-        self.play_histories()
-
-    def test_histories_4(self) -> None:
-        self.play_histories()
-
-    def play_histories(self) -> None:
+    @in_parts(4)
+    def test_histories(self) -> None:
         self.measure_a_run()
         while self.kills < KILLS * self.times:
             self.begin_history()

@@ -9,7 +9,7 @@ from collections import Counter
 from pathlib import Path
 from typing import Iterable, Optional
 
-from ..support.case import ProgramCase
+from ..support.case import ProgramCase, in_parts
 from ..support.models.model_host import Host, Served, serve
 from ..support.models.model_stores import DiskLog, MemoryDisk, MemoryLog
 from ..support.program import Word
@@ -53,7 +53,8 @@ class Scripts(WorldsCase):
 
     weight = 8
 
-    def try_worlds(self) -> None:
+    @in_parts(8)
+    def test_lines(self) -> None:
         events = 0
         for number in range(WORLDS * self.times):
             chance = random.Random(self.chance.getrandbits(64))
@@ -74,30 +75,6 @@ class Scripts(WorldsCase):
         if ended.output != wanted:
             self.fail(f"world {number}: {first_other_line(play, ended.output)}")
 
-    def test_lines_1(self) -> None:
-        self.try_worlds()
-
-    def test_lines_2(self) -> None:
-        self.try_worlds()
-
-    def test_lines_3(self) -> None:
-        self.try_worlds()
-
-    def test_lines_4(self) -> None:
-        self.try_worlds()
-
-    def test_lines_5(self) -> None:
-        self.try_worlds()
-
-    def test_lines_6(self) -> None:
-        self.try_worlds()
-
-    def test_lines_7(self) -> None:
-        self.try_worlds()
-
-    def test_lines_8(self) -> None:
-        self.try_worlds()
-
 
 def first_other_line(play: Play, output: bytes) -> str:
     """The first event with another outcome, and those before it."""
@@ -116,7 +93,8 @@ class Services(WorldsCase):
 
     weight = 6
 
-    def try_services(self) -> None:
+    @in_parts(4)
+    def test_streams(self) -> None:
         frames = 0
         for number in range(SERVICES * self.times):
             chance = random.Random(self.chance.getrandbits(64))
@@ -150,15 +128,3 @@ class Services(WorldsCase):
         self.assert_ended(ended, 1 if served.fault else 0, served.output, faults, what)
         self.tally.update(f"{it.kind.value} {it.says}" for it in served.answers)
         self.tally[served.fault or "done"] += 1
-
-    def test_streams_1(self) -> None:
-        self.try_services()
-
-    def test_streams_2(self) -> None:
-        self.try_services()
-
-    def test_streams_3(self) -> None:
-        self.try_services()
-
-    def test_streams_4(self) -> None:
-        self.try_services()

@@ -11,7 +11,7 @@ import random
 from collections import Counter
 from typing import Callable, Iterator, Optional
 
-from ..support.case import Case
+from ..support.case import Case, in_parts
 from ..support.formats import configuration
 from ..support.formats.bank import BANK, BankCase
 from ..support.formats.books import Approved, Declined, Open, Undone, book_of, read_book
@@ -272,7 +272,8 @@ class Scripts(WorldsCase):
 
     weight = 8
 
-    def try_worlds(self) -> None:
+    @in_parts(2)
+    def test_lines(self) -> None:
         count, events, draws = self.share_of(WORLDS), 0, self.own_chance()
         for number in range(count):
             chance = random.Random(draws.getrandbits(64))
@@ -295,25 +296,14 @@ class Scripts(WorldsCase):
         for line in ended.output.decode().splitlines():
             law.reads(line)
 
-    def test_lines_1(self) -> None:
-        self.try_worlds()
-
-    def test_lines_2(self) -> None:
-        self.try_worlds()
-
-    def try_walks(self) -> None:
+    @in_parts(2)
+    def test_walks(self) -> None:
         count, draws = self.share_of(WALKS), self.own_chance()
         for number in range(count):
             chance = random.Random(draws.getrandbits(64))
             bank, play = random_walk(chance)
             self.try_script(bank, play, script_of(chance, play.events), number)
         self.tells(f"{count} walks")
-
-    def test_walks_1(self) -> None:
-        self.try_walks()
-
-    def test_walks_2(self) -> None:
-        self.try_walks()
 
     def test_spoiled(self) -> None:
         """Scripts that are spoiled: the first line that is no event, or what they say."""
