@@ -13,7 +13,7 @@
 | `library/` | the library for other languages: its calls, its packages and its examples |
 | `packages/` | the Debian packages, and a release |
 | `page/` | the page, in a browser |
-| `service/` | `dukpt serve` over a log, its scripts and its unit |
+| `service/` | `dukpt serve` over a log, or over either store; its scripts and its unit |
 | `tools/` | the commands of tools/ and bench/, `.ci/run`, and the rules of the repository |
 | `vectors/` | the test vectors, their check, and the bench's own ciphers, which judge them |
 | `worlds/` | whole worlds at random: scripts, streams and arguments, to the letter |

@@ -6,7 +6,7 @@ import os
 import threading
 from typing import Optional, Sequence
 
-from ..service.test_service_logs import turn_of_devices
+from ..service.test_store_files import turn_of_devices
 from ..support.commands.everyday_rows import FIRST
 from ..support.commands.explain_case import EXPLAIN, ISSUE, SCRIPT, ExplainCase
 from ..support.commands.explained import Asked, Facts, damaged_record, explained, line_of

@@ -166,7 +166,7 @@ class LittleMemory(MemoryCase):
 
 class JournalMemory(MemoryCase):
     """A journal is shown, copied or made whole, or not at all: where memory is refused no file is left. A
-    service over a journal stands in `test_journal_memory`."""
+    service over a journal stands in `test_service_memory`."""
 
     def setUp(self) -> None:
         super().setUp()

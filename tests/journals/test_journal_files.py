@@ -1,63 +1,22 @@
 """The file of a journal: what is one and what is refused, and one service at a time."""
 from __future__ import annotations
 
-import fcntl
 import os
 import signal
-import subprocess
 
-from ..service.test_service_logs import turn_of_devices
 from ..support.formats import left_files
 from ..support.formats.journal_file import payments_in, records_for
 from ..support.formats.journal_records import (
     BY_HAND, DAMAGES, RECORD, Journals, Payment, Place, journal_of, put, read_entries,
     read_journal, scratched)
 from ..support.models.model_journal import payments_of_all
-from ..support.program import SECONDS, Ended
 from ..support.quick import QuickRuns
 from ..support.service.client import payments
 from ..support.service.journal_case import (
     CANNOT_OPEN, JOURNAL_FAILED, ON_JOURNAL, JournalCase, alone, frames_of, stream_of)
 from ..support.service.service_case import answers_to
 
-# What it needs is the program. The journal goes there before it is closed to writers.
-ON_READ_ONLY = """
-mount -t tmpfs none mounted && cp journal mounted/journal && mount -o remount,ro mounted || exit 77
-exec "$1" serve bank.toml --journal mounted/journal
-"""
-
-
-class NoFile(JournalCase):
-    """What cannot be opened; no journal is ever made."""
-
-    def test_no_file(self) -> None:
-        requests = frames_of(payments(1))
-        os.mkdir(self.home / "folder")
-        for name in ("missing", "missing/journal", "folder", ".", "", "bank.toml/journal"):
-            words = ["serve", "bank.toml", "--journal", name]
-            self.check(words, requests, b"", CANNOT_OPEN, what=f"the journal {name!r}")
-        found = sorted(it.name for it in self.home.iterdir())
-        self.assertEqual(found, ["bank.toml", "folder", "wide.toml"], "no journal is ever made")
-
-    def test_a_file_system_for_reading_alone(self) -> None:
-        self.make_journal(3)
-        os.mkdir(self.home / "mounted")
-        done = subprocess.run(
-            ["unshare", "--user", "--map-root-user", "--mount", "sh", "-c", ON_READ_ONLY, "sh",
-             self.program.path],
-            cwd=self.home, input=payments(1)[0].frame, capture_output=True, timeout=SECONDS,
-            check=False)
-        ended = Ended(done.returncode, done.stdout, done.stderr)
-        self.assertNotEqual(ended.status, 77, f"there is no such file system: {ended}")
-        self.assert_output(ended, b"", CANNOT_OPEN, "a file system for reading alone")
-
-    def test_devices(self) -> None:
-        """They can be opened, and have no size of a journal's."""
-        with turn_of_devices():
-            for name in ("/dev/null", "/dev/full", "/dev/zero"):
-                words = ["serve", "bank.toml", "--journal", name]
-                self.check(words, frames_of(payments(1)), b"", JOURNAL_FAILED, what=name)
-
+class Names(JournalCase):
     def test_blanks_in_a_name(self) -> None:
         """A name is taken as it is given."""
         self.make_journal(3)
@@ -255,19 +214,6 @@ class OneService(JournalCase):
         # Nor has a service over a log a right to it.
         words = ("serve", "bank.toml", "--log", "journal")
         self.check(words, [given], b"", "log: cannot open", what="a service over a log")
-
-    def test_beside_any_lock(self) -> None:
-        """Whoever has the file locked keeps a service out, at once, and shares no lock with it."""
-        self.make_journal(2)
-        for kind in (fcntl.LOCK_SH, fcntl.LOCK_EX):
-            with open(self.journal, "rb") as other:
-                fcntl.flock(other, kind)
-                self.check(ON_JOURNAL, frames_of(payments(1)), b"", CANNOT_OPEN, what=f"lock {kind}")
-        service = self.start(*ON_JOURNAL)
-        service.ask(frames_of(payments(1)))
-        with open(self.journal, "rb") as other, self.assertRaises(BlockingIOError):
-            fcntl.flock(other, fcntl.LOCK_SH | fcntl.LOCK_NB)
-        self.assert_output(service.end(), answers_to(payments(1)), "", "behind other locks")
 
     def test_a_log_is_no_journal(self) -> None:
         """A log that keeps numbers is refused as a journal, and a journal with payments as a log."""

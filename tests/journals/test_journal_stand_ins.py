@@ -1,20 +1,13 @@
 """The tests of journals, on stand-ins for the service: they find each wrong way to keep one."""
 from __future__ import annotations
 
-import sys
-import time
-import unittest
+from enum import Enum
 
-from ..support.case import Case
-from ..support.formats.bank import BANK
+from ..service.test_service_stand_ins import InLives, StandInCase
 from ..support.formats.journal_records import RECORD
-from ..support.program import ROOT, Program
 from ..support.service.client import PAN, PIN, Purchase, payments, payments_of, refused_requests
-from ..support.service.journal_case import JournalCase
 from ..support.service.journal_lives import ALL, ROOM, JournalLives
 from ..support.service.journal_stand_in import Way
-from ..support.service.lives import Finding, Wrong
-from ..support.service.stand_in import write_table
 from ..support.system.cut_file import CutFile
 from .test_journal_calls import Calls
 from .test_journal_failures import FailedCalls, FullFileSystem
@@ -25,15 +18,6 @@ from .test_journal_peers import NeverReads, Silent
 from .test_journal_service import Lives, Rows
 from .test_journal_torn import Torn
 
-SCRIPT = """#!{python} -ISB
-import sys
-sys.path.insert(0, {root!r})
-from tests.support.service.journal_stand_in import main
-sys.exit(main({way!r}, {table!r}))
-"""
-CUTS, MOST = 30, 2000
-# Torn journals that a stand-in opens.
-CASES = 60
 # What is found by lives whose power is lost, and what by another test.
 BY_LIVES = (Way.NO_SYNC, Way.BODIES_UNSYNCED, Way.GATE_UNSYNCED, Way.ANSWERS_FIRST, Way.GATE_FIRST,
             Way.ONE_WRITE, Way.OPEN_FOLLOWERS, Way.IN_MEMORY, Way.NO_REPEATS, Way.LOSES_THE_LAST)
@@ -62,45 +46,21 @@ BY_TESTS = (
 )
 
 
-class StandIns(Case):
-    weight = 20
+class StandIns(InLives, StandInCase):
+    module, right = "tests.support.service.journal_stand_in", Way.RIGHT
+    by_lives, most = BY_LIVES, 2000
 
     def setUp(self) -> None:
         super().setUp()
-        self.home = self.folder()
-        (self.home / "bank.toml").write_bytes(BANK)
         counters = range(1, 60)
         others = payments_of(counters, [Purchase(PAN, PIN, 7000, "00")] * len(counters))
-        requests = (*payments(3000), *refused_requests(), *others)
-        write_table(str(self.home / "table"),
-                    {it.frame: (it.answer, it.number or b"") for it in requests})
+        self.assertLessEqual(ALL, 3000)
+        self.write_table((*payments(3000), *refused_requests(), *others))
 
-    def stand_in(self, way: Way) -> Program:
-        script = self.home / way.name.lower()
-        script.write_text(SCRIPT.format(python=sys.executable, root=str(ROOT), way=way.value,
-                                        table=str(self.home / "table")))
-        script.chmod(0o755)
-        return Program(script)
-
-    def lives(self, way: Way) -> JournalLives:
+    def lives(self, way: Enum) -> JournalLives:
         file = CutFile(self.folder(), bytes(RECORD * ROOM))
         self.addCleanup(file.close)
         return JournalLives(self.stand_in(way), self.home, file, self.chance)
-
-    def test_the_right_way(self) -> None:
-        self.assertLessEqual(ALL, 3000)
-        lives, began = self.lives(Way.RIGHT), time.monotonic()
-        lives.play(CUTS * self.times)
-        self.tells(f"{lives}; {time.monotonic() - began:.1f} s")
-
-    def test_wrong_ways(self) -> None:
-        for way in BY_LIVES:
-            lives, began = self.lives(way), time.monotonic()
-            with self.assertRaises(Wrong, msg=way.value) as found:
-                lives.play(MOST)
-            self.assertIsNot(found.exception.finding, Finding.END, str(found.exception))
-            self.tells(f"{way.value}: {lives.cuts} cuts, {time.monotonic() - began:.1f} s, "
-                       f"{found.exception.finding.value}")
 
     def test_ways_that_other_tests_find(self) -> None:
         for case, test, ways in BY_TESTS:
@@ -108,11 +68,3 @@ class StandIns(Case):
             for way in ways:
                 self.assertIn("AssertionError", self.faults(way, case, test),
                               f"{case.__name__}.{test}: {way.value}")
-
-    def faults(self, way: Way, case: type[JournalCase], test: str) -> str:
-        """What a test tells of a stand-in."""
-        tried, result = case(test), unittest.TestResult()
-        tried.program = self.stand_in(way)
-        tried.cases = CASES
-        tried.run(result)
-        return "\n".join(text for _, text in result.failures + result.errors)

@@ -1,1 +1,1 @@
-"""`dukpt serve` over a log, its scripts and its unit."""
+"""`dukpt serve` over a log, or over either store; its scripts and its unit."""

@@ -13,8 +13,7 @@ from ..support.formats.left_files import LOG, looked
 from ..support.formats.log_file import RECORD, log_image
 from ..support.program import Ended, Program
 from ..support.service.client import Exchange, payments
-from ..support.service.service_case import (
-    CANNOT_OPEN, LOG_FAILED, ServiceCase, answers_to, numbers_of, stream_of)
+from ..support.service.service_case import ServiceCase, answers_to, numbers_of, stream_of
 
 # One line of strace: the process, the call, its arguments and what it gave.
 LINE = re.compile(r"^\d+ +(\w+)\((.*)\) += (-?\d+)", re.MULTILINE)
@@ -23,8 +22,6 @@ CHANGES = re.compile(r"O_(?:RDONLY|WRONLY|RDWR|CREAT|EXCL|TRUNC|APPEND)")
 # Each of them tells the length of a file.
 LENGTHS = ("fstat", "newfstatat", "statx")
 STEPS = ("openat", "flock", *LENGTHS, "pread64", "pwrite64", "fdatasync", "read", "write")
-OPENED = "openat(log, O_RDWR)"
-LOCKED = "flock(log, LOCK_EX|LOCK_NB)"
 LENGTH = "the length of log"
 SYNCED = ["fdatasync(log)", LENGTH]
 # A read takes what has come, up to so much.
@@ -34,20 +31,25 @@ REPLIED = "write(1)"
 AHEAD = 4096
 
 
-def steps_of(trace: str) -> list[str]:
-    """The calls on the log, the input and the output, without what they read or wrote."""
-    steps, log = [], ""
+def opening(store: str) -> tuple[str, str]:
+    """How it is opened, and then locked."""
+    return f"openat({store}, O_RDWR)", f"flock({store}, LOCK_EX|LOCK_NB)"
+
+
+def steps_of(trace: str, store: str = "log") -> list[str]:
+    """The calls on the store, the input and the output, without what they read or wrote."""
+    steps, file = [], ""
     for call, words, gave in LINE.findall(trace):
-        if call == "openat" and '"log"' in words:
-            log = gave
-            steps.append(f"openat(log, {'|'.join(CHANGES.findall(words))})")
-        elif call in LENGTHS and ('"log"' in words or log and words.startswith(f"{log}, ")):
-            steps.append(LENGTH)
-        elif call in ("pread64", "pwrite64") and log and words.startswith(f"{log}, "):
+        if call == "openat" and f'"{store}"' in words:
+            file = gave
+            steps.append(f"openat({store}, {'|'.join(CHANGES.findall(words))})")
+        elif call in LENGTHS and (f'"{store}"' in words or file and words.startswith(f"{file}, ")):
+            steps.append(f"the length of {store}")
+        elif call in ("pread64", "pwrite64") and file and words.startswith(f"{file}, "):
             count, at = words.split(", ")[-2:]
-            steps.append(f"{call}(log, {count} bytes at {at})")
-        elif call in ("flock", "fdatasync") and log and words.split(", ")[0] == log:
-            steps.append(f"{call}({words.replace(log, 'log', 1)})")
+            steps.append(f"{call}({store}, {count} bytes at {at})")
+        elif call in ("flock", "fdatasync") and file and words.split(", ")[0] == file:
+            steps.append(f"{call}({words.replace(file, store, 1)})")
         elif call == "read" and words.startswith("0, "):
             steps.append(f"read(0, {words.split(', ')[-1]} bytes)")
         elif call == "write" and words.startswith("1, "):
@@ -69,7 +71,7 @@ def start(room: int, numbers: Sequence[bytes] = ()) -> list[str]:
     """The length is taken of a file that is locked, which is looked at. Behind a sync its records are
     read, and those of numbers once more."""
     size = RECORD * room
-    return [OPENED, LOCKED, LENGTH, *looks(log_image(numbers, room)), *SYNCED, *reads(size, size)]
+    return [*opening("log"), LENGTH, *looks(log_image(numbers, room)), *SYNCED, *reads(size, size)]
 
 
 def write(count: int, at: int) -> list[str]:
@@ -84,17 +86,23 @@ def acceptance(place: int) -> list[str]:
 
 
 class TracedCase(ServiceCase):
+    """A test of the calls of a service over a store."""
+
+    store, record = "log", RECORD
+
     def traced(
         self, requests: Sequence[Exchange], configuration: str = "bank.toml"
     ) -> tuple[Ended, list[str]]:
-        """How a service on the log ends, and its calls."""
+        """How a service whose input is a file ends, and its calls."""
         strace = shutil.which("strace")
         self.assertIsNotNone(strace, "strace is not installed: apt-get install strace")
         trace = self.home / "trace"
+        self.write("input", stream_of(requests))
         words = ["-f", "-e", f"trace={','.join(STEPS)}", "-o", trace, self.program.path,
-                 "serve", configuration, "--log", "log"]
-        ended = Program(Path(strace or "")).run(*words, given=stream_of(requests), folder=self.home)
-        return ended, steps_of(trace.read_text())
+                 "serve", configuration, f"--{self.store}", self.store]
+        with open(self.home / "input", "rb") as given:
+            ended = Program(Path(strace or "")).run(*words, given=given.fileno(), folder=self.home)
+        return ended, steps_of(trace.read_text(), self.store)
 
 
 class Calls(TracedCase):
@@ -110,7 +118,6 @@ class Calls(TracedCase):
         wanted = [*start(room), READ, *acceptance(0), REPLIED, *acceptance(1), READ]
         self.assertEqual(steps, wanted)
 
-
     def test_a_long_log(self) -> None:
         """All records are read, and then those with numbers once more. After a write nothing that
         was read is kept, and nothing is read anew."""
@@ -124,33 +131,38 @@ class Calls(TracedCase):
 
 
 class Opens(TracedCase):
+    # What is looked at of a file that is locked, before it is refused for its size.
+    looks: Sequence[str] = (LENGTH,)
+
     def test_a_refused_configuration(self) -> None:
-        """The log is not opened, whether there is one or not."""
-        self.make_log(3)
+        """The file is not opened, whether there is one or not."""
+        self.write(self.store, bytes(3 * self.record))
         for text, fault in REFUSED_FILES:
             self.write("refused.toml", text)
             self.check_steps(f"config: {fault}", [], "refused.toml")
         self.check_steps("config: cannot read", [], "missing.toml")
-        os.remove(self.log)
+        os.remove(self.home / self.store)
         self.check_steps("config: cannot read", [], "missing.toml")
 
-    def test_a_refused_log(self) -> None:
+    def test_a_refused_file(self) -> None:
         """It is tried once, and nothing is read: one that is missing, a folder, and one that is
         locked."""
-        self.check_steps(CANNOT_OPEN, [OPENED])
-        os.mkdir(self.log)
-        self.check_steps(CANNOT_OPEN, [OPENED])
-        os.rmdir(self.log)
-        self.make_log(3)
-        with open(self.log, "rb") as other:
+        file, fault = self.home / self.store, f"{self.store}: cannot open"
+        opened, locked = opening(self.store)
+        self.check_steps(fault, [opened])
+        os.mkdir(file)
+        self.check_steps(fault, [opened])
+        os.rmdir(file)
+        self.write(self.store, bytes(3 * self.record))
+        with open(file, "rb") as other:
             fcntl.flock(other, fcntl.LOCK_EX)
-            self.check_steps(CANNOT_OPEN, [OPENED, LOCKED])
+            self.check_steps(fault, [opened, locked])
 
     def test_a_damaged_size(self) -> None:
-        """A log of such a size is neither synced nor read."""
-        for size in (0, RECORD - 1, RECORD + 1):
-            self.write("log", bytes(size))
-            self.check_steps(LOG_FAILED, [OPENED, LOCKED, LENGTH])
+        """A file of such a size is neither synced nor read."""
+        for size in (0, self.record - 1, self.record + 1):
+            self.write(self.store, bytes(size))
+            self.check_steps(f"{self.store}: failed", [*opening(self.store), *self.looks])
 
     def check_steps(
         self, fault: str, wanted: Sequence[str], configuration: str = "bank.toml"

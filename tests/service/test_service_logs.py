@@ -1,15 +1,11 @@
 """The log of a service: what is one and what is refused, and one service at a time."""
 from __future__ import annotations
 
-import contextlib
-import fcntl
 import os
 import signal
-import subprocess
-from typing import Iterator
 
 from ..support.formats.log_file import RECORD, log_image, read_log, record, records_of
-from ..support.program import COMMANDS, SECONDS, Ended
+from ..support.program import COMMANDS
 from ..support.service.client import PURCHASES, Exchange, number_of, payments, payments_of
 from ..support.service.service_case import (
     CANNOT_OPEN, LOG_FAILED, ON_LOG, ServiceCase, answers_to, frames_of, numbers_of)
@@ -27,55 +23,8 @@ ACCEPTED = {
 }
 
 
-# What it needs is the program. The log goes there before it is closed to writers.
-ON_READ_ONLY = """
-mount -t tmpfs none mounted && cp log mounted/log && mount -o remount,ro mounted || exit 77
-exec "$1" serve bank.toml --log mounted/log
-"""
-
-
-@contextlib.contextmanager
-def turn_of_devices() -> Iterator[None]:
-    """A lock on a device is that of the whole machine, so one test at a time has them."""
-    folder = os.open("/dev", os.O_RDONLY)
-    try:
-        fcntl.flock(folder, fcntl.LOCK_EX)
-        yield
-    finally:
-        os.close(folder)
-
-
 class RefusedLogs(ServiceCase):
     """What is no log is refused before a request is read, and is left as it is."""
-
-    def test_no_file(self) -> None:
-        requests = frames_of(payments(1))
-        os.mkdir(self.home / "folder")
-        for name in ("missing", "missing/log", "folder", ".", "", "bank.toml/log"):
-            words = ["serve", "bank.toml", "--log", name]
-            self.check(words, requests, b"", CANNOT_OPEN, what=f"the log {name!r}")
-        found = sorted(it.name for it in self.home.iterdir())
-        self.assertEqual(found, ["bank.toml", "folder", "wide.toml"], "no log is ever made")
-
-    def test_a_file_system_for_reading_alone(self) -> None:
-        """It needs no rights, as one that is full."""
-        self.make_log(3)
-        os.mkdir(self.home / "mounted")
-        done = subprocess.run(
-            ["unshare", "--user", "--map-root-user", "--mount", "sh", "-c", ON_READ_ONLY, "sh",
-             self.program.path],
-            cwd=self.home, input=payments(1)[0].frame, capture_output=True, timeout=SECONDS,
-            check=False)
-        ended = Ended(done.returncode, done.stdout, done.stderr)
-        self.assertNotEqual(ended.status, 77, f"there is no such file system: {ended}")
-        self.assert_output(ended, b"", CANNOT_OPEN, "a file system for reading alone")
-
-    def test_devices(self) -> None:
-        """They can be opened, and have no size of a log's."""
-        with turn_of_devices():
-            for name in ("/dev/null", "/dev/full", "/dev/zero"):
-                words = ["serve", "bank.toml", "--log", name]
-                self.check(words, frames_of(payments(1)), b"", LOG_FAILED, what=name)
 
     def test_images(self) -> None:
         images = {f"{name}.log": (LOGS / f"{name}.log").read_bytes() for name in REFUSED}
@@ -221,20 +170,6 @@ class SecondService(ServiceCase):
         self.assert_ended(ended, -signal.SIGKILL, answers_to(requests[:20]), b"", "killed")
         self.assert_image(numbers_of(requests[:20]), "beside others, and killed")
         self.go_on(requests, numbers_of(requests[:20]))
-
-    def test_beside_any_lock(self) -> None:
-        """Whoever has the file locked keeps a service out, at once, and shares no lock with it."""
-        self.make_log(2)
-        requests = payments(1)
-        for kind in (fcntl.LOCK_SH, fcntl.LOCK_EX):
-            with open(self.log, "rb") as other:
-                fcntl.flock(other, kind)
-                self.check(ON_LOG, frames_of(requests), b"", CANNOT_OPEN, what=f"a lock {kind}")
-        service = self.start(*ON_LOG)
-        service.ask(frames_of(requests))
-        with open(self.log, "rb") as other, self.assertRaises(BlockingIOError):
-            fcntl.flock(other, fcntl.LOCK_SH | fcntl.LOCK_NB)
-        self.assert_output(service.end(), answers_to(requests), "", "behind other locks")
 
     def refuse_others(self, pieces: list[bytes]) -> None:
         for name in ("log", "second name", "link"):

@@ -1,53 +1,76 @@
-"""The service on a log whose power is lost, at any of its calls on it and at any time.
+"""The service on a log or a journal whose power is lost, at any of its calls on it; on a log at any time
+too.
 
-The log is on a file system in user space, which keeps apart what was not synced. Where the power is
+The file is on a file system in user space, which keeps apart what was not synced. Where the power is
 lost it kills the service, and leaves any bytes of that.
 """
 from __future__ import annotations
 
 import time
+from typing import ClassVar, Union
 
 from ..support.case import in_parts
+from ..support.formats.journal_records import RECORD
 from ..support.formats.log_file import log_image
-from ..support.service.lives import ROOM, Finding, Lives, Wrong
+from ..support.service import journal_lives, lives
+from ..support.service.lives import Finding, Wrong
 from ..support.service.service_case import ServiceCase
 from ..support.system.cut_disk import Lies
 from ..support.system.cut_file import CutFile
 
-CUTS = 2000
 # In so many losses of power a file system that lies has to be found; it mostly takes some few, and
 # some hundreds where it is the sync at the start.
 MOST = 5000
+AnyLives = Union[lives.Lives, journal_lives.JournalLives]
 
 
-class PowerCuts(ServiceCase):
-    """Each part of the test has histories of its own."""
+class StoreCase(ServiceCase):
+    """A test of lives over one kind of store."""
 
-    weight = 30
+    kind: ClassVar[type[AnyLives]]
+    zeros: ClassVar[bytes]
 
-    def lives(self, lies: Lies = Lies.NONE) -> Lives:
-        file = CutFile(self.folder(), log_image([], ROOM))
+    def lives(self, lies: Lies = Lies.NONE) -> AnyLives:
+        file = CutFile(self.folder(), self.zeros)
         self.addCleanup(file.close)
-        return Lives(self.program, self.home, file, self.chance, lies)
+        return self.kind(self.program, self.home, file, self.chance, lies)
 
-    @in_parts(3)
-    def test_histories(self) -> None:
-        lives, began = self.lives(), time.monotonic()
-        lives.play(CUTS * self.times)
-        self.assertGreater(5 * lives.midst, lives.cuts, "too few lives ended amid acceptances")
-        self.tells(f"{lives}, {60 * lives.cuts / (time.monotonic() - began):.0f} cuts a minute")
+    def play_histories(self, cuts: int) -> None:
+        played, began = self.lives(), time.monotonic()
+        played.play(cuts * self.times)
+        self.assertGreater(5 * played.midst, played.cuts, "too few lives ended amid acceptances")
+        self.tells(f"{played}, {60 * played.cuts / (time.monotonic() - began):.0f} cuts a minute")
 
-    def test_syncs_that_do_nothing(self) -> None:
+
+class PowerCuts:
+    """Each part of the test of histories has its own."""
+
+    def test_syncs_that_do_nothing(self: StoreCase) -> None:
         """Over a file system that answers a sync and does none, the service is one that lacks it:
         the judge has to find that."""
         for lies in Lies:
             if lies is not Lies.NONE:
-                self.find(lies)
+                played, began = self.lives(lies), time.monotonic()
+                with self.assertRaises(Wrong, msg=f"{lies.value} is not missed") as found:
+                    played.play(MOST)
+                self.assertIsNot(found.exception.finding, Finding.END, str(found.exception))
+                self.tells(f"without {lies.value}: {played.cuts} cuts, "
+                           f"{time.monotonic() - began:.1f} s, {found.exception.finding.value}")
 
-    def find(self, lies: Lies) -> None:
-        lives, began = self.lives(lies), time.monotonic()
-        with self.assertRaises(Wrong, msg=f"{lies.value} is not missed") as found:
-            lives.play(MOST)
-        self.assertIsNot(found.exception.finding, Finding.END, str(found.exception))
-        self.tells(f"without {lies.value}: {lives.cuts} cuts, {time.monotonic() - began:.1f} s, "
-                   f"{found.exception.finding.value}")
+
+class OnLog(PowerCuts, StoreCase):
+    weight = 30
+    kind, zeros = lives.Lives, log_image([], lives.ROOM)
+
+    @in_parts(3)
+    def test_histories(self) -> None:
+        self.play_histories(2000)
+
+
+class OnJournal(PowerCuts, StoreCase):
+    weight = 20
+    kind, zeros = journal_lives.JournalLives, bytes(RECORD * journal_lives.ROOM)
+
+    @in_parts(2)
+    def test_histories(self) -> None:
+        self.play_histories(500)

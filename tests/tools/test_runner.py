@@ -2,9 +2,21 @@
 from __future__ import annotations
 
 import argparse
+import re
 
 from ..support.case import Case, in_parts, name_of
+from ..support.program import ROOT
 from ..support.runner import TwiceNamed, jobs_of, modules, run, seed_of
+
+# A module as documents name it: `test_find`, `test_find.py`, or with `test_page_..` all that begin so.
+NAMED = re.compile(r"`(test_\w+)(\.\.|\.py)?`")
+
+
+def missing(text: str) -> list[str]:
+    """The modules that a text names, and that are not there."""
+    there = [it.rpartition(".")[2] for it in modules()]
+    return [name for name, end in NAMED.findall(text)
+            if not (any(it.startswith(name) for it in there) if end == ".." else name in there)]
 
 
 class Parts(Case):
@@ -39,7 +51,7 @@ class Runner(Case):
         self.assertEqual([it.name for it in found], [f"{name}_{part}" for part in (1, 2, 3)])
         for job in found:
             self.assertEqual(run(job, self.seed, self.times).fault, "")
-        self.assertEqual([it.part for it in jobs_of(Runner)], [0] * 4)
+        self.assertEqual([it.part for it in jobs_of(Runner)], [0] * 5)
 
     def test_names(self) -> None:
         """A test's name, by which it draws, has no folder."""
@@ -53,3 +65,11 @@ class Runner(Case):
         for word in ("", "-1", "0x1", "Random"):
             with self.assertRaisesRegex(argparse.ArgumentTypeError, "is no number, and not `random`$"):
                 seed_of(word)
+
+    def test_documents(self) -> None:
+        """They name modules that are there."""
+        for file in (ROOT / "CONTRIBUTING.md", ROOT / "README.md", *sorted((ROOT / "docs").glob("*.md"))):
+            self.assertEqual(missing(file.read_text(encoding="utf-8")), [], file.name)
+        planted = ("`test_runner`, `test_runer`, `test_runner.py`, `test_page_..`, `test_pages_..`, "
+                   "`test_new_logs.py`")
+        self.assertEqual(missing(planted), ["test_runer", "test_pages_", "test_new_logs"])
