@@ -39,7 +39,6 @@ def band_of(layer: Layer, crates: Crates) -> Band:
     held = {it: [other for other in crates.stands_on[it] if other in layer.crates] for it in layer.crates}
     alone = [it for it in held if not held[it] and not any(it in others for others in held.values())]
     columns: list[list[str]] = []
-    before = 0
     ranks = ranks_of({it: others for it, others in held.items() if it not in alone})
     for rank in range(1 + max(ranks.values(), default=-1)):
         columns += spread([it for it in layer.crates if ranks.get(it) == rank])

@@ -1,8 +1,8 @@
 -- What a request comes to, by its command.
 use Rattle.std.proofs.Common.{◌≢◌, Result, Ok, Err, IfErr, OnOk, refl}
-use Rattle.duk_program.specs.Request.{Written}
-use Rattle.duk_program.specs.declared.command_line.name.CommandName.{CommandName}
-use Rattle.duk_program.specs.declared.command_line.name.CommandName.TheVariants as name
+use Rattle.duk_arguments.specs.Request.{Written}
+use Rattle.duk_arguments.specs.declared.name.CommandName.{CommandName}
+use Rattle.duk_arguments.specs.declared.name.CommandName.TheVariants as name
 use Rattle.duk_program.specs.Commands.{IsCommandDone, IsCommandNotDone}
 use Rattle.duk_program.specs.Meant.{HasLeftInput, IsDoneBy, IsDoneUntold, IsNotDoneBy, IsNotDoneUntold, IsUntold}
 use Rattle.duk_program.specs.Scene.{Scene}

@@ -1,9 +1,9 @@
 -- What the command of a request is that makes all its lines before it writes any.
 use Rattle.std.proofs.Common.{◌≡◌, Bool, Err, IfErr, IfOk, List, Ok, Result, false, inl, inr, refl, true, ℕ}
 use Rattle.std.specs.Prelude.{codes}
-use Rattle.duk_program.specs.Request.{Written, flag_in, text_in}
-use Rattle.duk_program.specs.declared.command_line.name.CommandName.{CommandName}
-use Rattle.duk_program.specs.declared.command_line.name.CommandName.TheVariants as name
+use Rattle.duk_arguments.specs.Request.{Written, flag_in, text_in}
+use Rattle.duk_arguments.specs.declared.name.CommandName.{CommandName}
+use Rattle.duk_arguments.specs.declared.name.CommandName.TheVariants as name
 use Rattle.duk_commands.specs.Answer.{Command, IsDone, IsNotDone}
 use Rattle.duk_commands.specs.declared.fault.Fault.{Fault}
 use Rattle.duk_commands.specs.declared.key_argument.KeyArgument.{KeyArgument}

@@ -2,8 +2,9 @@
 use Rattle.std.proofs.Common.{◌≡◌, ◌∙◌, ◌<◌, Bool, List, [], ◌∷◌, ap, false, get_or, length, map, refl, sym, ℕ}
 use Rattle.std.proofs.lemmas.List.{get_or-map}
 use Rattle.std.specs.List.{list_any}
-use Rattle.duk_program.specs.Request.{Written, pair_of, references_in}
-use Rattle.duk_program.specs.declared.command_line.entry.Entry.{Entry}
+use Rattle.duk_arguments.specs.Request.{Written, pair_of}
+use Rattle.duk_program.specs.References.{references_in}
+use Rattle.duk_arguments.specs.declared.entry.Entry.{Entry}
 use Rattle.duk_program.specs.Secrets.{names_in, secrets_in}
 
 texts_of : (entries : List Entry) → map (λ (entry : Entry). entry.text.now) entries ≡ map (λ (pair : List ℕ × List ℕ). pair.1) (map pair_of entries)

@@ -10,11 +10,11 @@ use Rattle.clap.specs.declared.error.kind.ErrorKind.TheVariants.{ArgumentConflic
 use Rattle.duk_program.specs.Asked.{AsksAfter, AsksFor, IsNoRequestOf, entries_found, is_shown}
 use Rattle.duk_program.specs.inner.Asked.{IsNoRequestAfter, IsReportedAs}
 use Rattle.duk_program.specs.CommandLine.{all_commands, command_line, row_of}
-use Rattle.duk_program.specs.declared.command_line.request.NoRequest.{NoRequest}
-use Rattle.duk_program.specs.declared.command_line.request.NoRequest.TheVariants as answer
+use Rattle.duk_program.specs.declared.command_line.reading.NoRequest.{NoRequest}
+use Rattle.duk_program.specs.declared.command_line.reading.NoRequest.TheVariants as answer
 use Rattle.duk_program.specs.Fits.{fits_by}
-use Rattle.duk_program.specs.Request.{Written}
-use Rattle.duk_program.specs.declared.command_line.name.CommandName.{CommandName}
+use Rattle.duk_arguments.specs.Request.{Written}
+use Rattle.duk_arguments.specs.declared.name.CommandName.{CommandName}
 use Rattle.duk_program.proofs.Named.{named, one_asked}
 
 -- of this command line `clap` reports which kinds of error may come

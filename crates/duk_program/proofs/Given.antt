@@ -4,10 +4,10 @@ use Rattle.std.specs.List.{AllByRecursion}
 use Rattle.clap.specs.Words.{Text}
 use Rattle.duk_program.specs.CommandLine.{row_of}
 use Rattle.duk_program.specs.Fits.{fits_by}
-use Rattle.duk_program.specs.Request.{Written, flag_in, texts_in}
+use Rattle.duk_arguments.specs.Request.{Written, flag_in, texts_in}
 use Rattle.duk_program.specs.Written.{AreAsMany}
-use Rattle.duk_program.specs.declared.command_line.name.CommandName.{CommandName}
-use Rattle.duk_program.specs.declared.command_line.name.CommandName.TheVariants as name
+use Rattle.duk_arguments.specs.declared.name.CommandName.{CommandName}
+use Rattle.duk_arguments.specs.declared.name.CommandName.TheVariants as name
 use Rattle.duk_program.proofs.Parameters.{AreGiven}
 
 all_or_none : (number pan pin amount : Bool)

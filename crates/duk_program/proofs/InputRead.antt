@@ -8,7 +8,8 @@ use Rattle.std.specs.Io.KnownBytes.{Consumes, IsAtEnd}
 use Rattle.std.specs.List.{before_first, position_or_len}
 use Rattle.std.specs.Str.{IsUtf8}
 use Rattle.duk_program.specs.CommandLine.{row_of}
-use Rattle.duk_program.specs.Request.{Written, help_name}
+use Rattle.duk_arguments.specs.Request.{Written}
+use Rattle.duk_program.specs.References.{help_name}
 use Rattle.duk_host.specs.Serve.{Supply}
 use Rattle.duk_io.specs.Known.{Known}
 use Rattle.duk_io.specs.Source.{AreBytesRead, AreReadsMade, IsBroken}

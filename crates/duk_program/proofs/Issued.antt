@@ -1,7 +1,7 @@
 -- What a task comes to over a ledger.
 use Rattle.std.proofs.Common.{◌*◌, ℕ, List, Result, Ok, Err, IfErr, IfOk, OnOk, inr}
 use Rattle.std.specs.Prelude.{codes}
-use Rattle.duk_program.specs.Request.{Written, value_in}
+use Rattle.duk_arguments.specs.Request.{Written, value_in}
 use Rattle.duk_commands.specs.Answer.{Streams}
 use Rattle.duk_commands.specs.Issue.{ends}
 use Rattle.duk_commands.specs.Order.{IsOrderOf}

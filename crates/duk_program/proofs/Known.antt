@@ -7,8 +7,8 @@ use Rattle.clap.specs.Simple.{App, Shape, built, built_leaf, inherited, label_of
 use Rattle.clap.specs.Walk.{Row, Rule, Text, Walk, answers_to, nothing_held, walk_from, walked}
 use Rattle.clap.proofs.OnLiterals.{clap_on_literals}
 use Rattle.duk_program.specs.CommandLine.{CommandRow, all_commands, command_line, row_of, shape_of_row}
-use Rattle.duk_program.specs.declared.command_line.name.CommandName.{CommandName}
-use Rattle.duk_program.specs.declared.command_line.name.CommandName.TheVariants as name
+use Rattle.duk_arguments.specs.declared.name.CommandName.{CommandName}
+use Rattle.duk_arguments.specs.declared.name.CommandName.TheVariants as name
 use Rattle.duk_program.proofs.Leavings.{default_of, has_to_be_there, is_written, own_fault, texts_in_row}
 use Rattle.duk_program.proofs.Parameters.{Met, after, all_met, all_wanted, known_of, row_left}
 use Rattle.duk_program.proofs.CommandRows.{row_at}

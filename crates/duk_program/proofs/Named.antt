@@ -3,8 +3,8 @@ use Rattle.std.proofs.Common.{List, Some, [], ap, ap₂, bytes_eq, find, flat_ma
 use Rattle.clap.specs.Words.{Row, Text}
 use Rattle.duk_program.specs.Asked.{AsksFor, entries_found}
 use Rattle.duk_program.specs.CommandLine.{all_commands, row_of}
-use Rattle.duk_program.specs.Request.{Written}
-use Rattle.duk_program.specs.declared.command_line.name.CommandName.{CommandName}
+use Rattle.duk_arguments.specs.Request.{Written}
+use Rattle.duk_arguments.specs.declared.name.CommandName.{CommandName}
 use Rattle.duk_program.proofs.Known.{Facts, known}
 use Rattle.std.proofs.lemmas.Bool.{cases_Bool}
 use Rattle.std.proofs.lemmas.Slice.Eq.{bytes_eq-Decides}

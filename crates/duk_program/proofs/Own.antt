@@ -2,9 +2,10 @@
 use Rattle.std.proofs.Common.{[], ◌≡◌, ℕ, IfSome, List, codes, refl, slice_get, subst, sym}
 use Rattle.std.specs.Prelude.{unwrap_or, false}
 use Rattle.duk_program.specs.CommandLine.{row_of}
-use Rattle.duk_program.specs.Request.{Written, may_refer, text_in, texts_in, value_in}
-use Rattle.duk_program.specs.declared.command_line.name.CommandName.{CommandName}
-use Rattle.duk_program.specs.declared.command_line.name.CommandName.TheVariants as name
+use Rattle.duk_arguments.specs.Request.{Written, text_in, texts_in, value_in}
+use Rattle.duk_program.specs.References.{may_refer}
+use Rattle.duk_arguments.specs.declared.name.CommandName.{CommandName}
+use Rattle.duk_arguments.specs.declared.name.CommandName.TheVariants as name
 use Rattle.duk_program.specs.Own.{MayMakeOwn, MayUseOwn, MayWriteOwn}
 
 -- a request has the texts of another where no reference may stand

@@ -7,7 +7,7 @@ use Rattle.clap.specs.Walk.{Held, Names, Row, Text, Walk, finished, nothing_held
 use Rattle.clap.proofs.FaultLemmas.{stopped_fault}
 use Rattle.clap.proofs.WalkLemmas.{walk_stopped}
 use Rattle.duk_program.specs.CommandLine.{command_line, row_of}
-use Rattle.duk_program.specs.declared.command_line.name.CommandName.{CommandName}
+use Rattle.duk_arguments.specs.declared.name.CommandName.{CommandName}
 use Rattle.duk_program.proofs.Known.{Facts, facts, known, leaf_of, start, top, wanted_facts}
 use Rattle.std.specs.Option.{option_map_or}
 

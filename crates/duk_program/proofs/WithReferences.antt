@@ -4,8 +4,9 @@ use Rattle.std.proofs.lemmas.Bool.{cases_Bool}
 use Rattle.std.proofs.lemmas.Slice.Eq.{bytes_eq-Decides}
 use Rattle.clap.specs.Words.{Text}
 use Rattle.duk_program.specs.CommandLine.{CommandRow, row_of}
-use Rattle.duk_program.specs.Request.{Written, flag_in, may_refer, texts_in, without_references, without_text}
-use Rattle.duk_program.specs.declared.command_line.name.CommandName.{CommandName}
+use Rattle.duk_arguments.specs.Request.{Written, flag_in, texts_in}
+use Rattle.duk_program.specs.References.{may_refer, without_references, without_text}
+use Rattle.duk_arguments.specs.declared.name.CommandName.{CommandName}
 
 abbrev texts_under : Text → List (Text × Text) → List Text
 texts_under name entries =

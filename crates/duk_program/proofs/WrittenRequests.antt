@@ -10,7 +10,7 @@ use Rattle.clap.specs.Walk.{Row, Rule, Text, settled, walked, with_default}
 use Rattle.clap.proofs.WalkLemmas.{list_any-map}
 use Rattle.duk_program.specs.Asked.{Asks, AsksAfter, AsksFor, entries_found, texts_found}
 use Rattle.duk_program.specs.CommandLine.{Parameter, command_line, row_of}
-use Rattle.duk_program.specs.Request.{Written, flag_in, texts_in}
+use Rattle.duk_arguments.specs.Request.{Written, flag_in, texts_in}
 use Rattle.duk_program.specs.Written.{AreAsMany, IsInForm, IsPlainArgument, arguments_of, entries_under}
 use Rattle.duk_program.proofs.Given.{are_given}
 use Rattle.duk_program.proofs.Known.{Facts, facts, known, leaf_of, start, wanted_facts}

@@ -10,9 +10,9 @@ use Rattle.clap.specs.declared.error.kind.ErrorKind.{ErrorKind}
 use Rattle.clap.specs.declared.error.kind.ErrorKind.TheVariants.{DisplayHelp, DisplayVersion}
 use Rattle.duk_program.specs.CommandLine.{Kind, Parameter, command_line, flag, row_of}
 use Rattle.duk_program.specs.Fits.{Fits}
-use Rattle.duk_program.specs.Request.{Written}
-use Rattle.duk_program.specs.declared.command_line.request.NoRequest.{NoRequest}
-use Rattle.duk_program.specs.declared.command_line.request.NoRequest.TheVariants as answer
+use Rattle.duk_arguments.specs.Request.{Written}
+use Rattle.duk_program.specs.declared.command_line.reading.NoRequest.{NoRequest}
+use Rattle.duk_program.specs.declared.command_line.reading.NoRequest.TheVariants as answer
 
 -- the bytes of each argument
 abbrev pub texts_of : {A : Type 0} → List (String A) → List Text

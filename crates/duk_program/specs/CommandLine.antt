@@ -3,8 +3,10 @@ use Rattle.std.specs.Prelude.{◌∷◌, [], Bool, List, Some, codes, false, map
 use Rattle.clap.specs.Words.{App, Rule, Shape, Text, new_rule}
 use Rattle.clap.specs.Simple.{new_shape}
 use Rattle.clap.specs.declared.builder.action.ArgAction.TheVariants.{SetTrue}
-use Rattle.duk_program.specs.declared.command_line.name.CommandName.{CommandName}
-use Rattle.duk_program.specs.declared.command_line.name.CommandName.TheVariants as name
+use Rattle.duk_arguments.specs.declared.name.CommandName.{CommandName}
+use Rattle.duk_arguments.specs.declared.name.CommandName.TheVariants as name
+use Rattle.duk_program.specs.declared.command_line.arguments.Way.{Way}
+use Rattle.duk_program.specs.declared.command_line.arguments.Way.TheVariants as way
 
 -- how an argument is written: NAME, [NAME], NAME.. from once to 16 times, [--name VALUE],
 -- --name VALUE, and [--name]
@@ -34,90 +36,91 @@ reference kind name = record { name = name; kind = kind; may_refer = true; shown
 abbrev pub called : Text → Parameter → Parameter
 called shown parameter = record parameter { shown = shown }
 
--- a command, and what may stand after it
+-- a command, how it is done, and what may stand after it
 pub record CommandRow : Type 0 where
   pub name : Text
+  pub way : Way
   pub parameters : List Parameter
 
-abbrev pub row : Text → List Parameter → CommandRow
-row name parameters = record { name = name; parameters = parameters }
+abbrev pub row : Text → Way → List Parameter → CommandRow
+row name way parameters = record { name = name; way = way; parameters = parameters }
 
 -- the row of each command
 abbrev pub row_of : CommandName → CommandRow
-row_of name.Derive = row (codes "derive")
+row_of name.Derive = row (codes "derive") way.Lines
     (reference needed (codes "BDK") ∷ reference needed (codes "KSN") ∷ plain flag (codes "initial")
     ∷ plain flag (codes "trace") ∷ plain flag (codes "all") ∷ [])
-row_of name.Walk = row (codes "walk")
+row_of name.Walk = row (codes "walk") way.LineByLine
     (reference needed (codes "BDK") ∷ reference needed (codes "IKSN")
     ∷ reference needed (codes "COUNT") ∷ called (codes "K") (reference valued (codes "skip"))
     ∷ plain flag (codes "ksn") ∷ plain flag (codes "initial") ∷ [])
-row_of name.Initial = row (codes "initial")
+row_of name.Initial = row (codes "initial") way.Lines
     (reference needed (codes "BDK") ∷ reference needed (codes "IKSN") ∷ [])
-row_of name.Issue = row (codes "issue")
+row_of name.Issue = row (codes "issue") way.Told
     (reference needed (codes "BDK") ∷ reference needed (codes "LOADING")
     ∷ reference needed (codes "IKSN") ∷ reference needed (codes "COUNT")
     ∷ called (codes "FILE") (plain named (codes "ledger"))
     ∷ called (codes "KCV") (reference valued (codes "bdk-kcv"))
     ∷ called (codes "FILE") (plain valued (codes "out")) ∷ plain flag (codes "skip-issued")
     ∷ plain flag (codes "again") ∷ [])
-row_of name.Registers = row (codes "registers")
+row_of name.Registers = row (codes "registers") way.Lines
     (reference needed (codes "BDK") ∷ reference needed (codes "KSN") ∷ plain flag (codes "initial")
     ∷ [])
-row_of name.Kcv = row (codes "kcv")
+row_of name.Kcv = row (codes "kcv") way.Lines
     (reference several (codes "KEY") ∷ plain flag (codes "components") ∷ plain flag (codes "show")
     ∷ [])
-row_of name.Mac = row (codes "mac")
+row_of name.Mac = row (codes "mac") way.Message
     (reference needed (codes "KEY") ∷ plain needed (codes "TEXT") ∷ plain flag (codes "cmac")
     ∷ plain flag (codes "hex") ∷ [])
-row_of name.Data = row (codes "data")
+row_of name.Data = row (codes "data") way.Message
     (reference needed (codes "KEY") ∷ plain needed (codes "TEXT")
     ∷ called (codes "BLOCK") (reference valued (codes "iv")) ∷ plain flag (codes "decipher")
     ∷ plain flag (codes "hex") ∷ [])
-row_of name.Pin = row (codes "pin")
+row_of name.Pin = row (codes "pin") way.Lines
     (reference needed (codes "PIN") ∷ reference needed (codes "PAN")
     ∷ called (codes "KEY") (reference valued (codes "key")) ∷ [])
-row_of name.Unpin = row (codes "unpin")
+row_of name.Unpin = row (codes "unpin") way.Lines
     (reference needed (codes "BLOCK") ∷ reference needed (codes "PAN")
     ∷ called (codes "KEY") (reference valued (codes "key")) ∷ plain flag (codes "show") ∷ [])
-row_of name.Translate = row (codes "translate")
+row_of name.Translate = row (codes "translate") way.Lines
     (reference needed (codes "BLOCK") ∷ reference needed (codes "PAN")
     ∷ reference needed (codes "BDK") ∷ reference needed (codes "KSN")
     ∷ reference needed (codes "ZONE") ∷ plain flag (codes "initial") ∷ [])
-row_of name.Wrap = row (codes "wrap")
+row_of name.Wrap = row (codes "wrap") way.Lines
     (reference needed (codes "KBPK") ∷ reference needed (codes "FIELDS")
     ∷ reference needed (codes "KEY") ∷ reference needed (codes "PAD") ∷ [])
-row_of name.Unwrap = row (codes "unwrap")
+row_of name.Unwrap = row (codes "unwrap") way.Lines
     (reference needed (codes "KBPK") ∷ reference needed (codes "BLOCK") ∷ [])
-row_of name.Show = row (codes "show")
+row_of name.Show = row (codes "show") way.Files
     (plain needed (codes "KIND") ∷ reference needed (codes "WHAT") ∷ plain flag (codes "show")
     ∷ called (codes "BDK") (reference valued (codes "key")) ∷ plain flag (codes "initial") ∷ [])
-row_of name.Request = row (codes "request")
+row_of name.Request = row (codes "request") way.Lines
     (reference needed (codes "BDK") ∷ reference needed (codes "KSN")
     ∷ reference optional (codes "PAN") ∷ reference optional (codes "PIN")
     ∷ reference optional (codes "AMOUNT")
     ∷ called (codes "NUMBER") (reference valued (codes "reverse")) ∷ plain flag (codes "initial")
     ∷ [])
-row_of name.Reply = row (codes "reply")
+row_of name.Reply = row (codes "reply") way.Lines
     (reference needed (codes "BDK") ∷ reference needed (codes "REQUEST")
     ∷ reference needed (codes "ANSWER") ∷ plain flag (codes "initial") ∷ [])
-row_of name.Find = row (codes "find")
+row_of name.Find = row (codes "find") way.Told
     (reference needed (codes "BDK") ∷ reference needed (codes "WHAT")
     ∷ called (codes "KSN") (reference valued (codes "from"))
     ∷ called (codes "N") (reference valued (codes "window"))
     ∷ called (codes "TEXT") (plain valued (codes "text")) ∷ plain flag (codes "hex")
     ∷ called (codes "PAN") (reference valued (codes "pan"))
     ∷ called (codes "BLOCK") (reference valued (codes "clear")) ∷ plain flag (codes "initial") ∷ [])
-row_of name.Run = row (codes "run")
+row_of name.Run = row (codes "run") way.Files
     (plain needed (codes "CONFIG") ∷ plain needed (codes "SCRIPT") ∷ plain flag (codes "journal")
     ∷ [])
-row_of name.Serve = row (codes "serve")
+row_of name.Serve = row (codes "serve") way.Files
     (plain needed (codes "CONFIG") ∷ called (codes "FILE") (plain valued (codes "log"))
     ∷ called (codes "FILE") (plain valued (codes "journal")) ∷ [])
-row_of name.NewLog = row (codes "new-log")
+row_of name.NewLog = row (codes "new-log") way.Files
     (plain needed (codes "FILE") ∷ reference needed (codes "RECORDS") ∷ [])
-row_of name.NewJournal = row (codes "new-journal")
+row_of name.NewJournal = row (codes "new-journal") way.Files
     (plain needed (codes "FILE") ∷ reference needed (codes "RECORDS") ∷ [])
-row_of name.CopyJournal = row (codes "copy-journal")
+row_of name.CopyJournal = row (codes "copy-journal") way.Files
     (plain needed (codes "OLD") ∷ plain needed (codes "NEW") ∷ [])
 
 -- the commands, in the order in which help lists them

@@ -2,9 +2,9 @@
 -- command makes of its arguments).
 use Rattle.std.specs.Prelude.{◌≡◌, ◌≤◌, ◌⊎◌, Bool, List, codes, false, length, true, ℕ}
 use Rattle.std.specs.Borrow.{Bor}
-use Rattle.duk_program.specs.Request.{Written, flag_in, text_in, texts_in, value_in}
-use Rattle.duk_program.specs.declared.command_line.name.CommandName.{CommandName}
-use Rattle.duk_program.specs.declared.command_line.name.CommandName.TheVariants as name
+use Rattle.duk_arguments.specs.Request.{Written, flag_in, text_in, texts_in, value_in}
+use Rattle.duk_arguments.specs.declared.name.CommandName.{CommandName}
+use Rattle.duk_arguments.specs.declared.name.CommandName.TheVariants as name
 use Rattle.duk_commands.specs.Answer.{Command, IsDone, IsNotDone, command_of}
 use Rattle.duk_commands.specs.HandedOn.{HasFailed, HasHandedOn}
 use Rattle.duk_commands.specs.KeyArgument.{key_argument}

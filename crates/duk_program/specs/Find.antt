@@ -1,6 +1,6 @@
 -- What `find` does for a request (this project's own, over what it makes of its arguments).
 use Rattle.std.specs.Prelude.{◌≡◌, ◌⊎◌, List, None, Some, codes, false, true, ℕ}
-use Rattle.duk_program.specs.Request.{Written, flag_in, text_in, value_in}
+use Rattle.duk_arguments.specs.Request.{Written, flag_in, text_in, value_in}
 use Rattle.duk_commands.specs.Answer.{Streams, streams}
 use Rattle.duk_commands.specs.HandedOn.{HasFailed, HasHandedOn}
 use Rattle.duk_io.specs.Sink.{IsUntouched}

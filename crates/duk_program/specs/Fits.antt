@@ -1,8 +1,8 @@
 -- Which arguments of a command exclude each other: this project's own.
 use Rattle.std.specs.Prelude.{◌≡◌, ◌&&◌, ◌||◌, Bool, bytes_eq, codes, if◌then◌else◌, not, true}
-use Rattle.duk_program.specs.Request.{Written, flag_in, text_in}
-use Rattle.duk_program.specs.declared.command_line.name.CommandName.{CommandName}
-use Rattle.duk_program.specs.declared.command_line.name.CommandName.TheVariants as name
+use Rattle.duk_arguments.specs.Request.{Written, flag_in, text_in}
+use Rattle.duk_arguments.specs.declared.name.CommandName.{CommandName}
+use Rattle.duk_arguments.specs.declared.name.CommandName.TheVariants as name
 
 -- `serve` keeps its numbers in one store at most
 abbrev pub has_one_store : Written → Bool

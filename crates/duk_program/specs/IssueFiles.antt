@@ -3,7 +3,7 @@
 use Rattle.std.specs.Prelude.{◌≡◌, ◌⊎◌, ◌*◌, ⊤, ℕ, zero, suc, Bool, true, false, List, Option, Some, None, codes, if◌then◌else◌}
 use Rattle.duk_program.specs.declared.commands.issue.IfIssued.{IfIssued}
 use Rattle.duk_program.specs.declared.commands.issue.IfIssued.TheVariants as if_issued
-use Rattle.duk_program.specs.Request.{Written, flag_in, text_in, value_in}
+use Rattle.duk_arguments.specs.Request.{Written, flag_in, text_in, value_in}
 use Rattle.duk_commands.specs.Answer.{Streams, streams}
 use Rattle.duk_commands.specs.HandedOn.{HasFailed, IsFlushLost}
 use Rattle.duk_io.specs.Known.{Known}

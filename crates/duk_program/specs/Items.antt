@@ -2,9 +2,9 @@
 -- that argument is written `-`.
 use Rattle.std.specs.Prelude.{◌≡◌, ◌==◌, ◌||◌, ◌&&◌, ⊤, ℕ, Bool, false, length, not, List, [], ◌∷◌, Option, Some, None, codes, if◌then◌else◌}
 use Rattle.std.specs.Str.{bytes_eq}
-use Rattle.duk_program.specs.Request.{Written, flag_in, text_in, texts_in, value_in}
-use Rattle.duk_program.specs.declared.command_line.name.CommandName.{CommandName}
-use Rattle.duk_program.specs.declared.command_line.name.CommandName.TheVariants as name
+use Rattle.duk_arguments.specs.Request.{Written, flag_in, text_in, texts_in, value_in}
+use Rattle.duk_arguments.specs.declared.name.CommandName.{CommandName}
+use Rattle.duk_arguments.specs.declared.name.CommandName.TheVariants as name
 use Rattle.duk_commands.specs.Item.{ItemCommand, item_command, item_of_command}
 use Rattle.duk_commands.specs.KeyArgument.{MeetsKey}
 use Rattle.duk_commands.specs.Ready.{AreNotReady, AreReady, MeetsOfBlocks, MeetsOfPans, MeetsOfPins}

@@ -13,8 +13,8 @@ pub mod Message
 pub mod Options
 pub mod Own
 pub mod Program
+pub mod References
 pub mod Refusal
-pub mod Request
 pub mod Roots
 pub mod Run
 pub mod RunFiles

@@ -1,9 +1,9 @@
 -- What the program does for a request (this project's own, over what each command makes of its
 -- arguments).
 use Rattle.std.specs.Prelude.{◌≡◌, ◌⊎◌, ℕ, Bool, List, Option, Some, None, codes}
-use Rattle.duk_program.specs.Request.{Written, flag_in, text_in}
-use Rattle.duk_program.specs.declared.command_line.name.CommandName.{CommandName}
-use Rattle.duk_program.specs.declared.command_line.name.CommandName.TheVariants as name
+use Rattle.duk_arguments.specs.Request.{Written, flag_in, text_in}
+use Rattle.duk_arguments.specs.declared.name.CommandName.{CommandName}
+use Rattle.duk_arguments.specs.declared.name.CommandName.TheVariants as name
 use Rattle.duk_commands.specs.Batch.{IsBatchDone, IsBatchNotDone}
 use Rattle.duk_commands.specs.HandedOn.{HasFailed, HasHandedOn}
 use Rattle.duk_commands.specs.declared.batch.fault.BatchFault.{BatchFault}

@@ -1,8 +1,8 @@
 -- The files that a request is for (this project's own).
 use Rattle.std.specs.Prelude.{⊤, IfSome, codes, List, ℕ}
-use Rattle.duk_program.specs.Request.{Written, text_in, value_in}
-use Rattle.duk_program.specs.declared.command_line.name.CommandName.{CommandName}
-use Rattle.duk_program.specs.declared.command_line.name.CommandName.TheVariants as name
+use Rattle.duk_arguments.specs.Request.{Written, text_in, value_in}
+use Rattle.duk_arguments.specs.declared.name.CommandName.{CommandName}
+use Rattle.duk_arguments.specs.declared.name.CommandName.TheVariants as name
 
 -- the file that a request opens to write it may be written: a service's log or journal, or a ledger
 abbrev pub MayWriteOwn : (List ℕ → Type 0) → CommandName → Written → Type 0

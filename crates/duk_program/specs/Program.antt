@@ -1,7 +1,7 @@
 -- What a run of the program does (this project's own, over what it does for a request).
 use Rattle.std.specs.Prelude.{◌≡◌, ◌⊎◌, ℕ, Bool, List}
 use Rattle.duk_program.specs.Asked.{AskForHelp, Asks}
-use Rattle.duk_program.specs.Request.{Written}
+use Rattle.duk_arguments.specs.Request.{Written}
 use Rattle.duk_commands.specs.Fault.{report_line}
 use Rattle.duk_commands.specs.HandedOn.{HasHandedOn, HasLost}
 use Rattle.duk_commands.specs.declared.fault.Fault.TheVariants.{OutOfMemory, WriteFailed}

@@ -1,7 +1,7 @@
 -- Which answer is a refusal (this project's own).
 use Rattle.std.specs.Prelude.{◌≡◌, ◌⊎◌, List, codes, ℕ}
-use Rattle.duk_program.specs.Request.{Written, text_in}
-use Rattle.duk_program.specs.declared.command_line.name.CommandName.TheVariants as name
+use Rattle.duk_arguments.specs.Request.{Written, text_in}
+use Rattle.duk_arguments.specs.declared.name.CommandName.TheVariants as name
 use Rattle.duk_block.specs.Hexadecimal.{IsHexadecimal}
 use Rattle.duk_frame.specs.Answer.{IsRefusal}
 use Rattle.duk_tree.specs.Serial.{Serial}

@@ -1,9 +1,9 @@
 -- What is told before a request is answered (this project's own): where faults are explained, a line of
 -- a configuration in which two prefixes have one key.
 use Rattle.std.specs.Prelude.{◌≡◌, Bool, List, true, ℕ}
-use Rattle.duk_program.specs.Request.{Written}
-use Rattle.duk_program.specs.declared.command_line.name.CommandName.{CommandName}
-use Rattle.duk_program.specs.declared.command_line.name.CommandName.TheVariants as name
+use Rattle.duk_arguments.specs.Request.{Written}
+use Rattle.duk_arguments.specs.declared.name.CommandName.{CommandName}
+use Rattle.duk_arguments.specs.declared.name.CommandName.TheVariants as name
 use Rattle.duk_io.specs.Known.{Known}
 use Rattle.duk_io.specs.Sink.{IsTried}
 use Rattle.duk_program.specs.Scene.{Scene, scene}

@@ -4,7 +4,8 @@ use Rattle.std.specs.Prelude.{◌≡◌, ◌==◌, ◌<◌, ◌⊎◌, ⊤, ℕ,
 use Rattle.std.specs.List.{list_any}
 use Rattle.std.specs.Str.{IsUtf8, bytes_eq}
 use Rattle.duk_program.specs.CommandLine.{row_of}
-use Rattle.duk_program.specs.Request.{Written, help_name, references_in, without_references}
+use Rattle.duk_arguments.specs.Request.{Written}
+use Rattle.duk_program.specs.References.{help_name, references_in, without_references}
 use Rattle.duk_commands.specs.Fault.{line_end}
 use Rattle.duk_host.specs.Serve.{Supply}
 use Rattle.duk_service.specs.Files.{FileKnown, HasLongLine, IsLineRead, IsUnreadableFile}

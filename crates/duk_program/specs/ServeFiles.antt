@@ -1,6 +1,6 @@
 -- What `serve` answers over files (this project's own).
 use Rattle.std.specs.Prelude.{◌≡◌, ◌⊎◌, Option, Some, None, codes, List, ℕ}
-use Rattle.duk_program.specs.Request.{Written, value_in}
+use Rattle.duk_arguments.specs.Request.{Written, value_in}
 use Rattle.duk_config.specs.NewHost.{new_host_of}
 use Rattle.duk_config.specs.Settings.{Settings}
 use Rattle.duk_program.specs.Configured.{IsConfigRefused, IsConfigured}

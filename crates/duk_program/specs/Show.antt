@@ -1,6 +1,6 @@
 -- What `show` prints (this project's own, over what each kind of text says).
 use Rattle.std.specs.Prelude.{◌≡◌, ◌≢◌, ◌⊎◌, ◌^◌, ⊤, ℕ, Bool, List, None, Option, Some, codes, false, true}
-use Rattle.duk_program.specs.Request.{Written, flag_in, text_in}
+use Rattle.duk_arguments.specs.Request.{Written, flag_in, text_in}
 use Rattle.duk_commands.specs.HandedOn.{HasFailed, HasHandedOn}
 use Rattle.duk_commands.specs.declared.fault.Fault.TheVariants.{WriteFailed}
 use Rattle.duk_commands.specs.declared.key_argument.KeyArgument.{KeyArgument}

@@ -1,8 +1,8 @@
 -- What is left to do when the arguments are dealt with (this project's own).
 use Rattle.std.specs.Prelude.{◌≡◌, ◌⊎◌, ℕ, Bool, List, None, Some, codes}
 use Rattle.duk_program.specs.Asked.{Asks}
-use Rattle.duk_program.specs.Request.{Written, flag_in, text_in, value_in}
-use Rattle.duk_program.specs.declared.command_line.name.CommandName.TheVariants as name
+use Rattle.duk_arguments.specs.Request.{Written, flag_in, text_in, value_in}
+use Rattle.duk_arguments.specs.declared.name.CommandName.TheVariants as name
 use Rattle.duk_commands.specs.Answer.{Streams}
 use Rattle.duk_io.specs.Sink.{IsTried, IsUntouched}
 use Rattle.duk_program.specs.Commands.{IsCommandDone, IsCommandNotDone}

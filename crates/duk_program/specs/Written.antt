@@ -4,7 +4,7 @@ use Rattle.std.specs.List.{AllByRecursion}
 use Rattle.clap.specs.Words.{Text}
 use Rattle.duk_program.specs.CommandLine.{Kind, Parameter, flag, named, needed, optional, row_of, several, valued}
 use Rattle.duk_program.specs.Fits.{Fits}
-use Rattle.duk_program.specs.Request.{Written, texts_in}
+use Rattle.duk_arguments.specs.Request.{Written, texts_in}
 
 -- `--name`
 abbrev pub option_named : Text → Text

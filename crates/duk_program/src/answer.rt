@@ -1,7 +1,7 @@
 //! Does the command of a request whose secrets are written as they are.
 
 ghost use Rattle.std.specs.Prelude.{◌≡◌, IfErr, OnOk, codes};
-ghost use Rattle.duk_program.specs.Request.{text_in};
+ghost use Rattle.duk_arguments.specs.Request.{text_in};
 ghost use Rattle.duk_io.specs.Known.{Known};
 ghost use Rattle.duk_io.specs.Sink.{IsHandedOn};
 ghost use Rattle.duk_program.specs.Meant.{AreAllAnswered, AreItemsDone, AreItemsNotDone, AreNotAllAnswered, IsAnswered, IsDoneAlone, IsDoneOverMessage, IsDoneUntold, IsNotAnswered, IsNotDoneAlone, IsNotDoneOverMessage, IsNotDoneUntold};

@@ -3,25 +3,22 @@
 ghost use Rattle.std.specs.Prelude.{◌≡◌, [], IfOk, bytes_eq, find};
 ghost use Rattle.clap.specs.Words.{app_of};
 ghost use Rattle.duk_program.specs.CommandLine.{all_commands, command_line, program_shape, row_of};
-ghost use Rattle.duk_program.specs.Request.{help_name, may_refer};
+ghost use Rattle.duk_program.specs.References.{help_name, may_refer};
 ghost use Rattle.duk_program.specs.inner.CommandLine.{row_of_usage};
 
 pub(crate) mod arguments;
-mod entry;
 mod fits;
 mod found;
 mod help;
-mod name;
 mod reading;
-mod request;
+mod references;
 
 use crate::commands;
 use arguments::{Usage, command_of};
 use clap::Command;
-pub use entry::Entry;
-pub use name::CommandName;
-pub use reading::read_request;
-pub use request::{NoRequest, Request};
+pub use duk_arguments::{CommandName, Entry, Request};
+pub use reading::{NoRequest, read_request};
+pub(crate) use references::{references, with_references};
 use std::alloc::{AllocError, Global};
 
 /// What `--version` prints after the program's name.

@@ -1,7 +1,7 @@
 //! Does the command of a request over its arguments alone.
 
 ghost use Rattle.std.specs.Prelude.{IfErr, IfOk, OnOk, codes};
-ghost use Rattle.duk_program.specs.Request.{flag_in, text_in};
+ghost use Rattle.duk_arguments.specs.Request.{flag_in, text_in};
 ghost use Rattle.duk_commands.specs.Answer.{IsDone, IsNotDone};
 ghost use Rattle.duk_io.specs.Sink.{IsHandedOn};
 ghost use Rattle.duk_program.specs.Commands.{IsCommandDone, IsCommandNotDone, IsDoneWhole, IsKeyOf, IsNotDoneWhole, command_for, message_command};

@@ -11,7 +11,8 @@ ghost use Rattle.duk_program.specs.Status.{EndsWith, HasEnded, HasNotEnded, IsKe
 ghost use Rattle.duk_program.specs.inner.Commands.{IsOverArguments};
 ghost use Rattle.duk_program.specs.inner.Status.{HasToldCommand};
 
-use crate::command_line::{CommandName, Request, read_request};
+use crate::command_line::arguments::Way;
+use crate::command_line::{CommandName, Request, read_request, usage_of};
 use crate::commands::do_command;
 use crate::items::reads_items;
 use crate::references::has_reference;
@@ -175,15 +176,8 @@ fn is_left(request: &Request<'_>) -> bool
 fn is_over_arguments(command: CommandName) -> bool
     ensures { IsTrue result → IsOverArguments command }
 {
-    match command {
-        CommandName::Run
-        | CommandName::Serve
-        | CommandName::NewLog
-        | CommandName::NewJournal
-        | CommandName::CopyJournal
-        | CommandName::Find
-        | CommandName::Show
-        | CommandName::Issue => false,
-        _ => true,
+    match usage_of(command).way {
+        Way::Lines | Way::LineByLine | Way::Message => true,
+        Way::Files | Way::Told => false,
     }
 }

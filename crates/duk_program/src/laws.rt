@@ -5,7 +5,7 @@ ghost use Rattle.clap.specs.Words.{Text, fault_of};
 ghost use Rattle.clap.specs.declared.error.kind.ErrorKind.TheVariants as kind;
 ghost use Rattle.duk_program.specs.Asked.{Asks};
 ghost use Rattle.duk_program.specs.CommandLine.{command_line};
-ghost use Rattle.duk_program.specs.Request.{Written};
+ghost use Rattle.duk_arguments.specs.Request.{Written};
 ghost use Rattle.duk_program.specs.Written.{IsInForm, arguments_of};
 
 /// A request that is written after any name of the program, in the form of its command's row and with

@@ -16,6 +16,7 @@ mod options;
 mod program;
 mod references;
 mod secrets;
+mod shape;
 mod shown;
 
 pub use command_line::{CommandName, Entry, NoRequest, Request, read_request};
@@ -26,3 +27,4 @@ pub use duk_service::{FileFault, FileSystem, LogFiles, Reason, serve_with};
 pub use items::reads_items;
 pub use options::take_option;
 pub use program::run_program;
+pub use shape::{Shape, shape_of};

@@ -2,12 +2,13 @@
 
 ghost use Rattle.std.specs.Prelude.{◌≡◌, IfErr, IfOk, false, length, map, string_bytes, List, ℕ};
 ghost use Rattle.duk_program.specs.CommandLine.{row_of};
-ghost use Rattle.duk_program.specs.Request.{may_refer, texts_in};
+ghost use Rattle.duk_arguments.specs.Request.{texts_in};
+ghost use Rattle.duk_program.specs.References.{may_refer};
 ghost use Rattle.duk_program.specs.Secrets.{EachMeans, HasMeaning, secrets_in};
 ghost use Rattle.duk_program.specs.declared.secrets.SecretFault.TheVariants.{NoMemory};
 ghost use Rattle.duk_service.specs.Files.{FileKnown};
 
-use crate::command_line::Request;
+use crate::command_line::{Request, with_references};
 use crate::secrets::SecretFault;
 use std::alloc::Global;
 
@@ -27,7 +28,7 @@ pub(crate) fn meant_by<'a>(
         → HasMeaning held request.now meant) }
     ensures refused { IfErr result (λ why. why ≡ NoMemory) }
 {
-    match request.with_references(alloc, texts) {
+    match with_references(alloc, request, texts) {
         Ok(meant) => Ok(meant),
         Err(_) => Err(SecretFault::NoMemory),
     }

@@ -3,7 +3,7 @@
 ghost use Rattle.std.specs.Prelude.{◌≡◌};
 ghost use Rattle.std.specs.Io.KnownBytes.{Keeps};
 ghost use Rattle.duk_program.specs.Asked.{AreRefused, Asks, texts_of};
-ghost use Rattle.duk_program.specs.Request.{Written};
+ghost use Rattle.duk_arguments.specs.Request.{Written};
 ghost use Rattle.duk_io.specs.Sink.{IsHandedOn};
 ghost use Rattle.duk_program.specs.Fault.{IsTold};
 ghost use Rattle.duk_program.specs.Meant.{IsEndedAs, IsRequestDone, IsRequestNotDone, IsUnended};

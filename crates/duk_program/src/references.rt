@@ -3,14 +3,14 @@
 ghost use Rattle.std.specs.Prelude.{◌≡◌, [], IfErr, IfOk, IsFalse, IsOkAnd, IsTrue, MatchResult, OnErr, false, is_some, map, option_map, string_bytes};
 ghost use Rattle.std.specs.List.{list_any};
 ghost use Rattle.duk_program.specs.CommandLine.{row_of};
-ghost use Rattle.duk_program.specs.Request.{help_name};
+ghost use Rattle.duk_program.specs.References.{help_name};
 ghost use Rattle.duk_host.specs.Serve.{supply};
 ghost use Rattle.duk_io.specs.Source.{AreReadsMade, IsBroken};
 ghost use Rattle.duk_program.specs.InputLine.{HasLineTaken};
 ghost use Rattle.duk_program.specs.Secrets.{AreRead, HasWordsAlone, IsSecretFault, RefersToInput, path_of, reference_in, secrets_in};
 ghost use Rattle.duk_program.specs.inner.Secrets.{IsAnyLineUnread, IsNextByte, IsOnceUnread, IsReadOnce, IsSecretRead, IsSecretRefused, IsTextRefused, line_fault};
 
-use crate::command_line::{CommandName, Entry, Request, help_name};
+use crate::command_line::{CommandName, Entry, Request, help_name, references};
 use crate::secrets::{Secret, SecretFault, Unread};
 use duk_io::Source;
 use duk_service::{FileFault, FileSystem, strip_return};
@@ -99,7 +99,7 @@ pub(crate) fn read_texts<S: FileSystem, R: Source>(
         (supply (R.known input.old) (R.reads input.old))
         (supply (R.known input.new) (R.reads input.new)) request.now) }
 {
-    let references = match request.references(alloc) {
+    let references = match references(alloc, request) {
         Ok(references) => references,
         Err(_) => return Err(SecretFault::NoMemory),
     };

@@ -1,8 +1,8 @@
 -- Each file may be written and made.
 use Rattle.std.specs.Prelude.{⊤, IfSome, None, Option, Some, codes, List, ℕ}
-use Rattle.duk_program.specs.Request.{Written, value_in}
-use Rattle.duk_program.specs.declared.command_line.name.CommandName.{CommandName}
-use Rattle.duk_program.specs.declared.command_line.name.CommandName.TheVariants as name
+use Rattle.duk_arguments.specs.Request.{Written, value_in}
+use Rattle.duk_arguments.specs.declared.name.CommandName.{CommandName}
+use Rattle.duk_arguments.specs.declared.name.CommandName.TheVariants as name
 use Rattle.duk_program.specs.Own.{MayMakeOwn, MayUseOwn, MayWriteOwn}
 
 all : (file : Option (List ℕ)) → IfSome file (λ path. ⊤)

@@ -8,8 +8,6 @@ mod names;
 mod notes;
 mod object;
 mod objects;
-mod shape;
 
 pub(crate) use answers::Answers;
 pub(crate) use faults::Faults;
-pub(crate) use shape::{Shape, shape_of};

@@ -1,9 +1,8 @@
 //! The options that the program takes before its commands know of them, `--json` and `--progress`,
 //! and what is asked of a command with them.
 
-use crate::as_json::{Shape, shape_of};
 use crate::progress::Counting;
-use duk_program::{CommandName, NoRequest, Request, read_request, reads_items, take_option};
+use duk_program::{NoRequest, Request, Shape, read_request, reads_items, shape_of, take_option};
 use std::alloc::{AllocError, Global};
 
 /// Which of the options are given.
@@ -79,16 +78,21 @@ fn asked_by(request: &Request<'_>, views: Views, explain: bool) -> Asked {
     }
 }
 
-/// What is counted of the command of a request.
+/// What is counted of the command of a request: it follows from the arguments that it has.
 fn counting_of(request: &Request<'_>) -> Counting {
-    match request.command() {
-        CommandName::Walk | CommandName::Issue => Counting::lines_of(request.text("COUNT")),
-        CommandName::NewLog | CommandName::NewJournal | CommandName::CopyJournal => {
-            Counting::Records
-        }
-        CommandName::Show if is_of_records(request.text("KIND")) => Counting::LinesWritten(None),
-        _ if reads_items(request) => Counting::LinesRead,
-        _ => Counting::Nothing,
+    if let Some(count) = request.value("COUNT") {
+        return Counting::lines_of(count);
+    }
+    if request.flag("RECORDS") || request.flag("NEW") {
+        return Counting::Records;
+    }
+    if is_of_records(request.text("KIND")) {
+        return Counting::LinesWritten(None);
+    }
+    if reads_items(request) {
+        Counting::LinesRead
+    } else {
+        Counting::Nothing
     }
 }
 

@@ -4,9 +4,9 @@ use Rattle.clap.specs.Words.{Row, Text}
 use Rattle.clap.specs.declared.error.kind.ErrorKind.{ErrorKind}
 use Rattle.clap.specs.declared.error.kind.ErrorKind.TheVariants.{OutOfMemory}
 use Rattle.duk_program.specs.Asked.{AsksAfter, is_shown}
-use Rattle.duk_program.specs.Request.{Written}
-use Rattle.duk_program.specs.declared.command_line.request.NoRequest.{NoRequest}
-use Rattle.duk_program.specs.declared.command_line.request.NoRequest.TheVariants as answer
+use Rattle.duk_arguments.specs.Request.{Written}
+use Rattle.duk_program.specs.declared.command_line.reading.NoRequest.{NoRequest}
+use Rattle.duk_program.specs.declared.command_line.reading.NoRequest.TheVariants as answer
 
 -- what an error of this kind is reported as
 abbrev pub IsReportedAs : ErrorKind → NoRequest → Type 0

@@ -39,6 +39,7 @@ parameter_of (argument.Flag name help) = plain flag name.now
 abbrev pub row_of_usage : Usage → CommandRow
 row_of_usage usage = record {
   name = usage.name.now;
+  way = usage.way;
   parameters = map parameter_of usage.arguments.now;
 }
 

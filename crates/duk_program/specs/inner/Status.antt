@@ -1,6 +1,6 @@
 -- What only private functions and proofs say beside `Status.antt`: this project's own.
 use Rattle.std.specs.Prelude.{◌≡◌, ◌⊎◌, ℕ}
-use Rattle.duk_program.specs.Request.{Written}
+use Rattle.duk_arguments.specs.Request.{Written}
 use Rattle.duk_commands.specs.Answer.{Streams}
 use Rattle.duk_io.specs.Sink.{IsTried}
 use Rattle.duk_program.specs.Commands.{IsCommandNotDone}

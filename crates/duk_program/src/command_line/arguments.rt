@@ -4,6 +4,7 @@ ghost use Rattle.std.specs.Prelude.{◌≡◌, IfOk};
 ghost use Rattle.duk_program.specs.CommandLine.{rule_by, rule_of_parameter, shape_of_row, valued};
 ghost use Rattle.duk_program.specs.inner.CommandLine.{IsArgument, IsCommand, parameter_of, row_of_usage};
 
+use crate::shape::Answers;
 use clap::{Arg, ArgAction, Command};
 use std::alloc::{AllocError, Global};
 
@@ -76,11 +77,30 @@ impl<'a> Argument<'a> {
     }
 }
 
+/// How a command is done.
+#[derive(Clone, Copy)]
+pub(crate) enum Way {
+    /// Over its arguments alone: all its lines are made before one is written.
+    Lines,
+    /// Over its arguments alone, line by line.
+    LineByLine,
+    /// Over the bytes that its TEXT stands for: all its lines are made before one is written.
+    Message,
+    /// Over files or the input.
+    Files,
+    /// The same, and it tells of its work beside its answer.
+    Told,
+}
+
 /// How a command is used.
 #[derive(Clone, Copy)]
 pub(crate) struct Usage<'a> {
     /// The command's name.
     pub(crate) name: &'a str,
+    /// How it is done.
+    pub(crate) way: Way,
+    /// How its lines make answers.
+    pub(crate) answers: Answers,
     /// What the command is about.
     pub(crate) about: &'a str,
     /// What stands at the end of its help.

@@ -4,7 +4,7 @@ ghost use Rattle.std.specs.Prelude.{◌≡◌, ◌∷◌, ◌++◌, [], IfOk, On
 ghost use Rattle.clap.specs.Words.{all_of, found_of, rows_of};
 ghost use Rattle.duk_program.specs.Asked.{entries_found, is_flagged};
 ghost use Rattle.duk_program.specs.CommandLine.{row_of};
-ghost use Rattle.duk_program.specs.Request.{pair_of};
+ghost use Rattle.duk_arguments.specs.Request.{pair_of};
 ghost use Rattle.duk_program.specs.inner.CommandLine.{parameter_of};
 
 use crate::command_line::arguments::Argument;

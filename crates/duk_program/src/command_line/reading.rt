@@ -6,16 +6,27 @@ ghost use Rattle.clap.specs.Words.{app_of, fault_of, found_of, rows_of, subcomma
 ghost use Rattle.clap.specs.declared.error.kind.ErrorKind.TheVariants.{ArgumentConflict};
 ghost use Rattle.duk_program.specs.Asked.{Asks, AsksAfter, IsNoRequestOf, texts_of};
 ghost use Rattle.duk_program.specs.CommandLine.{command_line, row_of};
-ghost use Rattle.duk_program.specs.Request.{Written};
+ghost use Rattle.duk_arguments.specs.Request.{Written};
 ghost use Rattle.duk_program.specs.inner.Asked.{IsNoRequestAfter, IsReportedAs};
 
 use crate::command_line::arguments::command_of;
 use crate::command_line::fits::fits;
 use crate::command_line::found::request_of;
-use crate::command_line::{CommandName, NoRequest, Request, command_named, program, usage_of};
+use crate::command_line::{CommandName, Request, command_named, program, usage_of};
 use clap::error::ErrorKind;
 use clap::{ArgMatches, Command, Error};
 use std::alloc::{AllocError, Global};
+
+/// What stands in place of a request.
+#[derive(Debug, Drop)]
+pub enum NoRequest {
+    /// Help or the version, which was asked for: its text, with its last line ended.
+    Help(String),
+    /// The arguments are refused: the text that says why, with its last line ended.
+    Refused(String),
+    /// Memory was refused.
+    NoMemory,
+}
 
 /// The request that the arguments make, the first of which is the program's name: that of the
 /// command that they use, with the arguments after it. `clap` finds them by the program's command

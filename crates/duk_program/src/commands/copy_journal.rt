@@ -6,7 +6,8 @@ ghost use Rattle.duk_program.specs.inner.CommandLine.{row_of_usage};
 
 use crate::command_line::CommandName;
 use crate::command_line::arguments::Form::Plain;
-use crate::command_line::arguments::{Argument, Usage};
+use crate::command_line::arguments::{Argument, Usage, Way};
+use crate::shape::{Answers, Shape};
 
 /// `copy-journal OLD NEW`
 pub(crate) fn usage<'a>() -> Usage<'a>
@@ -14,6 +15,8 @@ pub(crate) fn usage<'a>() -> Usage<'a>
 {
     Usage {
         name: "copy-journal",
+        way: Way::Files,
+        answers: Answers::Are(Shape::Whole),
         about: "Copies what a journal keeps into the file of a new one",
         after_help: HELP,
         conflict: None,

@@ -5,9 +5,10 @@ ghost use Rattle.duk_program.specs.CommandLine.{row_of};
 ghost use Rattle.duk_program.specs.inner.CommandLine.{row_of_usage};
 ghost use Rattle.duk_program.specs.Commands.{command_by};
 
-use crate::command_line::arguments::{Argument, BDK, INITIAL_KEY, KSN, Usage};
+use crate::command_line::arguments::{Argument, BDK, INITIAL_KEY, KSN, Usage, Way};
 use crate::command_line::{CommandName, Request};
 use crate::commands::key_of;
+use crate::shape::{Answers, Shape};
 use duk_commands::{Fault, Lines, derived_lines};
 
 /// `derive BDK KSN [--initial] [--trace] [--all]`
@@ -16,6 +17,8 @@ pub(crate) fn usage<'a>() -> Usage<'a>
 {
     Usage {
         name: "derive",
+        way: Way::Lines,
+        answers: Answers::Are(Shape::Items(DERIVED)),
         about: "Prints the initial key, the transaction key and the PIN key of a key serial number",
         after_help: HELP,
         conflict: None,
@@ -45,6 +48,18 @@ pub(super) fn lines(request: &Request<'_>) -> Result<Lines, Fault>
         request.flag("all"),
     )
 }
+
+/// The names of the lines of an answer.
+const DERIVED: &[&str] = &[
+    "step",
+    "initial",
+    "key",
+    "pin",
+    "mac-request",
+    "mac-response",
+    "data-request",
+    "data-response",
+];
 
 /// At the end of its help.
 const HELP: &str = "\

@@ -3,7 +3,7 @@
 ghost use Rattle.std.specs.Prelude.{◌≡◌, IfErr, IfOk, OnOk, codes, true};
 ghost use Rattle.duk_program.specs.CommandLine.{row_of};
 ghost use Rattle.duk_program.specs.inner.CommandLine.{row_of_usage};
-ghost use Rattle.duk_program.specs.Request.{flag_in, value_in};
+ghost use Rattle.duk_arguments.specs.Request.{flag_in, value_in};
 ghost use Rattle.duk_commands.specs.Answer.{streams};
 ghost use Rattle.duk_host.specs.Serve.{supply};
 ghost use Rattle.duk_io.specs.Sink.{IsHandedOn};
@@ -13,11 +13,12 @@ ghost use Rattle.duk_service.specs.Serve.{serving_of};
 ghost use Rattle.duk_program.specs.Fits.{has_one_sought, is_one_at_most};
 
 use crate::command_line::arguments::Form::{Plain, Reference};
-use crate::command_line::arguments::{Argument, BDK, INITIAL_KEY, Usage};
+use crate::command_line::arguments::{Argument, BDK, INITIAL_KEY, Usage, Way};
 use crate::command_line::{CommandName, Request};
 use crate::commands::key_of;
 use crate::fault::Fault;
 use crate::message::read_message;
+use crate::shape::{Answers, Shape};
 use duk_commands::{Clue, FindFault, find_command, hand_on};
 use duk_io::{Sink, Source};
 use duk_service::{FileFault, FileSystem};
@@ -30,6 +31,8 @@ pub(crate) fn usage<'a>() -> Usage<'a>
 {
     Usage {
         name: "find",
+        way: Way::Told,
+        answers: Answers::Are(Shape::Whole),
         about: "Finds the number and the key that made a frame, a MAC, a PIN block or a ciphertext",
         after_help: HELP,
         conflict: Some(CONFLICT),

@@ -5,8 +5,9 @@ ghost use Rattle.duk_program.specs.CommandLine.{row_of};
 ghost use Rattle.duk_program.specs.inner.CommandLine.{row_of_usage};
 ghost use Rattle.duk_program.specs.Commands.{command_by};
 
-use crate::command_line::arguments::{BDK, IKSN, Usage};
+use crate::command_line::arguments::{BDK, IKSN, Usage, Way};
 use crate::command_line::{CommandName, Request};
+use crate::shape::{Answers, Shape};
 use duk_commands::{Fault, Lines, initial_lines};
 
 /// `initial BDK IKSN`
@@ -15,6 +16,8 @@ pub(crate) fn usage<'a>() -> Usage<'a>
 {
     Usage {
         name: "initial",
+        way: Way::Lines,
+        answers: Answers::Are(Shape::Whole),
         about: "Prints the initial key (IPEK) of a terminal, and its check value",
         after_help: HELP,
         conflict: None,

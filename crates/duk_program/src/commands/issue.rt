@@ -4,7 +4,7 @@ ghost use Rattle.std.specs.Prelude.{◌*◌, ◌≡◌, ◌≤◌, IfErr, IfOk, 
 ghost use Rattle.duk_program.specs.CommandLine.{row_of};
 ghost use Rattle.duk_program.specs.inner.CommandLine.{row_of_usage};
 ghost use Rattle.std.specs.Option.{option_copied};
-ghost use Rattle.duk_program.specs.Request.{text_in, value_in};
+ghost use Rattle.duk_arguments.specs.Request.{text_in, value_in};
 ghost use Rattle.duk_commands.specs.Answer.{streams};
 ghost use Rattle.duk_io.specs.Sink.{IsHandedOn};
 ghost use Rattle.duk_commands.specs.Issue.{ends};
@@ -14,8 +14,9 @@ ghost use Rattle.duk_program.specs.IssueFiles.{HasIssuedFiles, HasMadeLines, Has
 ghost use Rattle.duk_program.specs.inner.IssueFiles.{task_of};
 
 use crate::command_line::arguments::Form::{Plain, Reference};
-use crate::command_line::arguments::{Argument, BDK, Usage};
+use crate::command_line::arguments::{Argument, BDK, Usage, Way};
 use crate::command_line::{CommandName, Request};
+use crate::shape::{Answers, Shape};
 use duk_commands::hand_on;
 use duk_commands::issue::{
     IssueFault, Order, PADDING_LENGTH, issue, issue_again, note_passed_over,
@@ -31,6 +32,8 @@ pub(crate) fn usage<'a>() -> Usage<'a>
 {
     Usage {
         name: "issue",
+        way: Way::Told,
+        answers: Answers::Are(Shape::Issued),
         about: "Issues the initial keys (IPEK) of terminals as loading blocks, each once",
         after_help: HELP,
         conflict: None,

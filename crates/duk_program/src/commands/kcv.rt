@@ -6,8 +6,9 @@ ghost use Rattle.duk_program.specs.inner.CommandLine.{row_of_usage};
 ghost use Rattle.duk_program.specs.Commands.{command_by};
 
 use crate::command_line::arguments::Form::Reference;
-use crate::command_line::arguments::{Argument, Usage};
+use crate::command_line::arguments::{Argument, Usage, Way};
 use crate::command_line::{CommandName, Request};
+use crate::shape::{Answers, Shape};
 use duk_commands::{Fault, Lines, MOST_KEYS, values_lines};
 use std::alloc::Global;
 
@@ -17,6 +18,8 @@ pub(crate) fn usage<'a>() -> Usage<'a>
 {
     Usage {
         name: "kcv",
+        way: Way::Lines,
+        answers: Answers::Without("components", Shape::Items(VALUES)),
         about: "Prints the check values of keys, or of the components of a key and of the key",
         after_help: HELP,
         conflict: None,
@@ -53,6 +56,9 @@ pub(super) fn lines(alloc: Global, request: &Request<'_>) -> Result<Lines, Fault
     let components = request.flag("components");
     values_lines(keys.as_slice(), components, request.flag("show"))
 }
+
+/// The names of the lines of an answer.
+const VALUES: &[&str] = &["kcv", "cmac", "weak"];
 
 /// At the end of its help.
 const HELP: &str = "\

@@ -6,8 +6,9 @@ ghost use Rattle.duk_program.specs.inner.CommandLine.{row_of_usage};
 ghost use Rattle.duk_program.specs.Commands.{message_by};
 
 use crate::command_line::arguments::Form::{Plain, Reference};
-use crate::command_line::arguments::{Argument, Usage};
+use crate::command_line::arguments::{Argument, Usage, Way};
 use crate::command_line::{CommandName, Request};
+use crate::shape::{Answers, Shape};
 use duk_commands::{Fault, Lines, mac_lines};
 use std::alloc::Global;
 
@@ -17,6 +18,8 @@ pub(crate) fn usage<'a>() -> Usage<'a>
 {
     Usage {
         name: "mac",
+        way: Way::Message,
+        answers: Answers::Are(Shape::Whole),
         about: "Prints the MAC of a text",
         after_help: HELP,
         conflict: None,

@@ -6,8 +6,9 @@ ghost use Rattle.duk_program.specs.inner.CommandLine.{row_of_usage};
 ghost use Rattle.duk_program.specs.Commands.{command_by};
 
 use crate::command_line::arguments::Form::Reference;
-use crate::command_line::arguments::{Argument, PAN, Usage};
+use crate::command_line::arguments::{Argument, PAN, Usage, Way};
 use crate::command_line::{CommandName, Request};
+use crate::shape::{Answers, Shape};
 use duk_commands::{Fault, Lines, pin_lines};
 
 /// `pin PIN PAN [--key KEY]`
@@ -16,6 +17,8 @@ pub(crate) fn usage<'a>() -> Usage<'a>
 {
     Usage {
         name: "pin",
+        way: Way::Lines,
+        answers: Answers::Are(Shape::Items(PIN_BLOCKS)),
         about: "Prints the PIN block of a PIN and a PAN, and the block enciphered",
         after_help: HELP,
         conflict: None,
@@ -44,6 +47,9 @@ pub(super) fn lines(request: &Request<'_>) -> Result<Lines, Fault>
         request.value("key"),
     )
 }
+
+/// The names of the lines of an answer.
+const PIN_BLOCKS: &[&str] = &["block", "enciphered"];
 
 /// At the end of its help.
 const HELP: &str = "\

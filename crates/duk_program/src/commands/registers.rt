@@ -5,9 +5,10 @@ ghost use Rattle.duk_program.specs.CommandLine.{row_of};
 ghost use Rattle.duk_program.specs.inner.CommandLine.{row_of_usage};
 ghost use Rattle.duk_program.specs.Commands.{command_by};
 
-use crate::command_line::arguments::{BDK, INITIAL_KEY, KSN, Usage};
+use crate::command_line::arguments::{BDK, INITIAL_KEY, KSN, Usage, Way};
 use crate::command_line::{CommandName, Request};
 use crate::commands::key_of;
+use crate::shape::{Answers, Shape};
 use duk_commands::{Fault, Lines, registers_lines};
 
 /// `registers BDK KSN [--initial]`
@@ -16,6 +17,8 @@ pub(crate) fn usage<'a>() -> Usage<'a>
 {
     Usage {
         name: "registers",
+        way: Way::Lines,
+        answers: Answers::Are(Shape::Whole),
         about: "Prints the 21 registers of a terminal at a key serial number",
         after_help: HELP,
         conflict: None,

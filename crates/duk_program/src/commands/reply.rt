@@ -7,9 +7,10 @@ ghost use Rattle.duk_program.specs.Refusal.{AsksOfRefusal, IsEndStatus, IsRefusa
 ghost use Rattle.duk_program.specs.Commands.{command_by};
 
 use crate::command_line::arguments::Form::Reference;
-use crate::command_line::arguments::{Argument, BDK, INITIAL_KEY, Usage};
+use crate::command_line::arguments::{Argument, BDK, INITIAL_KEY, Usage, Way};
 use crate::command_line::{CommandName, Request};
 use crate::commands::key_of;
+use crate::shape::{Answers, Shape};
 use duk_commands::{Fault, Lines, reply_lines};
 use duk_frame::{AnswerFrame, read_answer};
 use std::alloc::Global;
@@ -20,6 +21,8 @@ pub(crate) fn usage<'a>() -> Usage<'a>
 {
     Usage {
         name: "reply",
+        way: Way::Lines,
+        answers: Answers::Are(Shape::Whole),
         about: "Checks the answer frame to a request frame or to a reversal",
         after_help: HELP,
         conflict: None,

@@ -7,9 +7,10 @@ ghost use Rattle.duk_program.specs.Commands.{command_by};
 ghost use Rattle.duk_program.specs.Fits.{has_payment_or_number};
 
 use crate::command_line::arguments::Form::Reference;
-use crate::command_line::arguments::{Argument, BDK, INITIAL_KEY, KSN, Usage};
+use crate::command_line::arguments::{Argument, BDK, INITIAL_KEY, KSN, Usage, Way};
 use crate::command_line::{CommandName, Request};
 use crate::commands::key_of;
+use crate::shape::{Answers, Shape};
 use duk_commands::{Fault, Lines, request_lines, reversal_lines};
 
 /// `request BDK KSN [PAN] [PIN] [AMOUNT] [--reverse NUMBER] [--initial]`
@@ -18,6 +19,8 @@ pub(crate) fn usage<'a>() -> Usage<'a>
 {
     Usage {
         name: "request",
+        way: Way::Lines,
+        answers: Answers::Are(Shape::Whole),
         about: "Prints the frame of a payment's request or of a reversal, as a terminal makes it",
         after_help: HELP,
         conflict: Some(CONFLICT),

@@ -11,9 +11,10 @@ ghost use Rattle.duk_program.specs.RunFiles.{HasNotRunFiles, HasRunFiles, file_r
 
 use crate::command_line::CommandName;
 use crate::command_line::arguments::Form::Plain;
-use crate::command_line::arguments::{Argument, Usage};
+use crate::command_line::arguments::{Argument, Usage, Way};
 use crate::configuration::read_configuration;
 use crate::fault::Fault;
+use crate::shape::{Answers, Shape};
 use duk_commands::hand_on;
 use duk_config::{Config, LONGEST_FILE, ScriptFault};
 use duk_io::{Sink, Source};
@@ -27,6 +28,8 @@ pub(crate) fn usage<'a>() -> Usage<'a>
 {
     Usage {
         name: "run",
+        way: Way::Files,
+        answers: Answers::Are(Shape::Text),
         about: "Runs a script of events, and prints what comes of each",
         after_help: HELP,
         conflict: None,

@@ -3,17 +3,18 @@
 ghost use Rattle.std.specs.Prelude.{◌≡◌, IfErr, IfSome, OnOk, codes};
 ghost use Rattle.duk_program.specs.CommandLine.{row_of};
 ghost use Rattle.duk_program.specs.inner.CommandLine.{row_of_usage};
-ghost use Rattle.duk_program.specs.Request.{text_in, value_in};
+ghost use Rattle.duk_arguments.specs.Request.{text_in, value_in};
 ghost use Rattle.duk_io.specs.Sink.{IsHandedOn};
 ghost use Rattle.duk_program.specs.ServeFiles.{HasNotServedFiles, HasServedFiles, IsServedOver, IsUnservedOver, file_service, kept_in};
 ghost use Rattle.duk_service.specs.Serve.{serving_of};
 ghost use Rattle.duk_program.specs.Fits.{has_one_store};
 
 use crate::command_line::arguments::Form::Plain;
-use crate::command_line::arguments::{Argument, Usage};
+use crate::command_line::arguments::{Argument, Usage, Way};
 use crate::command_line::{CommandName, Request};
 use crate::configuration::read_configuration;
 use crate::fault::Fault;
+use crate::shape::{Answers, Shape};
 use duk_config::Config;
 use duk_io::{Sink, Source};
 use duk_service::{
@@ -27,6 +28,8 @@ pub(crate) fn usage<'a>() -> Usage<'a>
 {
     Usage {
         name: "serve",
+        way: Way::Files,
+        answers: Answers::Are(Shape::Text),
         about: "Answers the request frames of standard input on standard output",
         after_help: HELP,
         conflict: Some(CONFLICT),

@@ -3,7 +3,7 @@
 ghost use Rattle.std.specs.Prelude.{◌≡◌, ◌⊎◌, IfErr, IfOk, OnOk, codes};
 ghost use Rattle.duk_program.specs.CommandLine.{row_of};
 ghost use Rattle.duk_program.specs.inner.CommandLine.{row_of_usage};
-ghost use Rattle.duk_program.specs.Request.{text_in};
+ghost use Rattle.duk_arguments.specs.Request.{text_in};
 ghost use Rattle.duk_io.specs.Sink.{IsHandedOn};
 ghost use Rattle.duk_program.specs.Show.{HasNotShownAsked, HasNotShownText, HasShownAsked, HasShownText, IsJournalFileRefused, IsJournalFileText, IsKeyOfFrame, IsLogFileRefused, IsLogFileText, IsNotShown, IsShowRefused, IsShowText, IsShown, show_arguments};
 ghost use Rattle.duk_show.specs.Block.{IsBlockRefused, IsBlockText};
@@ -14,9 +14,10 @@ ghost use Rattle.duk_show.specs.declared.fault.ShowFault.TheVariants.{OutOfMemor
 ghost use Rattle.duk_program.specs.Fits.{has_key_of_frame};
 
 use crate::command_line::arguments::Form::{Plain, Reference};
-use crate::command_line::arguments::{Argument, INITIAL_KEY, Usage};
+use crate::command_line::arguments::{Argument, INITIAL_KEY, Usage, Way};
 use crate::command_line::{CommandName, Request};
 use crate::fault::Fault;
+use crate::shape::{Answers, Shape};
 use duk_commands::{KeyArgument, hand_on};
 use duk_io::{Sink, write_text};
 use duk_service::{FileFault, FileSystem};
@@ -31,6 +32,8 @@ pub(crate) fn usage<'a>() -> Usage<'a>
 {
     Usage {
         name: "show",
+        way: Way::Files,
+        answers: Answers::OfKind,
         about: "Prints the fields of a frame, a key block, a terminal's image, a log or a journal",
         after_help: HELP,
         conflict: Some(CONFLICT),
@@ -278,6 +281,52 @@ fn journal_text<S: FileSystem>(alloc: Global, files: &S, path: &str) -> Result<V
         Err(FileFault::CannotRead) => Err(ShowFault::JournalUnread),
     }
 }
+
+/// The shape of what is shown of a kind.
+pub(crate) fn shape_of_kind(kind: &str) -> Shape {
+    match kind {
+        "frame" => Shape::Items(FRAME),
+        "block" => Shape::Items(BLOCK),
+        "image" => Shape::Items(IMAGE),
+        _ => Shape::Whole,
+    }
+}
+
+/// The names of the lines of a frame.
+const FRAME: &[&str] = &[
+    "frame",
+    "ksn",
+    "pan",
+    "amount",
+    "pin-block",
+    "code",
+    "reason",
+    "reversed",
+    "state",
+    "mac",
+    "mac-expected",
+    "mac-check",
+    "clear-pin-block",
+];
+
+/// The names of the lines of a key block.
+const BLOCK: &[&str] = &[
+    "version",
+    "length",
+    "usage",
+    "algorithm",
+    "mode",
+    "key-version",
+    "exportability",
+    "optional-blocks",
+    "reserved",
+    "optional-block",
+    "ciphertext",
+    "mac",
+];
+
+/// The names of the lines of an image.
+const IMAGE: &[&str] = &["version", "iksn", "next", "register", "past"];
 
 /// At the end of its help.
 const HELP: &str = "\

@@ -6,9 +6,10 @@ ghost use Rattle.duk_program.specs.inner.CommandLine.{row_of_usage};
 ghost use Rattle.duk_program.specs.Commands.{command_by};
 
 use crate::command_line::arguments::Form::Reference;
-use crate::command_line::arguments::{Argument, BDK, INITIAL_KEY, KSN, PAN, Usage};
+use crate::command_line::arguments::{Argument, BDK, INITIAL_KEY, KSN, PAN, Usage, Way};
 use crate::command_line::{CommandName, Request};
 use crate::commands::key_of;
+use crate::shape::{Answers, Shape};
 use duk_commands::{Fault, Lines, translate_lines};
 
 /// `translate BLOCK PAN BDK KSN ZONE [--initial]`
@@ -17,6 +18,8 @@ pub(crate) fn usage<'a>() -> Usage<'a>
 {
     Usage {
         name: "translate",
+        way: Way::Lines,
+        answers: Answers::Are(Shape::Whole),
         about: "Prints the PIN block of a terminal, enciphered under a zone key",
         after_help: HELP,
         conflict: None,

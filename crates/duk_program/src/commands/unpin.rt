@@ -6,8 +6,9 @@ ghost use Rattle.duk_program.specs.inner.CommandLine.{row_of_usage};
 ghost use Rattle.duk_program.specs.Commands.{command_by};
 
 use crate::command_line::arguments::Form::Reference;
-use crate::command_line::arguments::{Argument, PAN, Usage};
+use crate::command_line::arguments::{Argument, PAN, Usage, Way};
 use crate::command_line::{CommandName, Request};
+use crate::shape::{Answers, Shape};
 use duk_commands::{Fault, Lines, unpin_lines};
 
 /// `unpin BLOCK PAN [--key KEY] [--show]`
@@ -16,6 +17,8 @@ pub(crate) fn usage<'a>() -> Usage<'a>
 {
     Usage {
         name: "unpin",
+        way: Way::Lines,
+        answers: Answers::Are(Shape::Whole),
         about: "Says whether a PIN block is valid, or prints its PIN",
         after_help: HELP,
         conflict: None,

@@ -6,8 +6,9 @@ ghost use Rattle.duk_program.specs.inner.CommandLine.{row_of_usage};
 ghost use Rattle.duk_program.specs.Commands.{command_by};
 
 use crate::command_line::arguments::Form::Reference;
-use crate::command_line::arguments::{Argument, KBPK, Usage};
+use crate::command_line::arguments::{Argument, KBPK, Usage, Way};
 use crate::command_line::{CommandName, Request};
+use crate::shape::{Answers, Shape};
 use duk_commands::{Fault, Lines, unwrap_lines};
 
 /// `unwrap KBPK BLOCK`
@@ -16,6 +17,8 @@ pub(crate) fn usage<'a>() -> Usage<'a>
 {
     Usage {
         name: "unwrap",
+        way: Way::Lines,
+        answers: Answers::Are(Shape::Items(UNWRAPPED)),
         about: "Prints the header fields and the key of a key block (TR-31)",
         after_help: HELP,
         conflict: None,
@@ -31,6 +34,9 @@ pub(super) fn lines(request: &Request<'_>) -> Result<Lines, Fault>
 {
     unwrap_lines(request.text("KBPK"), request.text("BLOCK"))
 }
+
+/// The names of the lines of an answer.
+const UNWRAPPED: &[&str] = &["fields", "key"];
 
 /// At the end of its help.
 const HELP: &str = "\

@@ -7,9 +7,10 @@ ghost use Rattle.duk_commands.specs.Answer.{IsDone, IsNotDone};
 ghost use Rattle.duk_program.specs.Commands.{command_by};
 
 use crate::command_line::arguments::Form::Reference;
-use crate::command_line::arguments::{Argument, BDK, IKSN, INITIAL_KEY, Usage};
+use crate::command_line::arguments::{Argument, BDK, IKSN, INITIAL_KEY, Usage, Way};
 use crate::command_line::{CommandName, Request};
 use crate::commands::key_of;
+use crate::shape::{Answers, Shape};
 use duk_commands::{Fault, walk_command};
 use duk_io::Sink;
 
@@ -19,6 +20,8 @@ pub(crate) fn usage<'a>() -> Usage<'a>
 {
     Usage {
         name: "walk",
+        way: Way::LineByLine,
+        answers: Answers::Are(Shape::Numbers),
         about: "Walks a terminal through its numbers and prints the key of each",
         after_help: HELP,
         conflict: None,

@@ -6,8 +6,9 @@ ghost use Rattle.duk_program.specs.inner.CommandLine.{row_of_usage};
 ghost use Rattle.duk_program.specs.Commands.{command_by};
 
 use crate::command_line::arguments::Form::Reference;
-use crate::command_line::arguments::{Argument, KBPK, Usage};
+use crate::command_line::arguments::{Argument, KBPK, Usage, Way};
 use crate::command_line::{CommandName, Request};
+use crate::shape::{Answers, Shape};
 use duk_commands::{Fault, Lines, wrap_line};
 
 /// `wrap KBPK FIELDS KEY PAD`
@@ -16,6 +17,8 @@ pub(crate) fn usage<'a>() -> Usage<'a>
 {
     Usage {
         name: "wrap",
+        way: Way::Lines,
+        answers: Answers::Are(Shape::Bare("block")),
         about: "Prints the key block (TR-31) of a key",
         after_help: HELP,
         conflict: None,

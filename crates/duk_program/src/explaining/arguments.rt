@@ -1,9 +1,8 @@
 //! Arguments that are refused, by their names.
 
-use crate::command_line::CommandName;
 use crate::explaining::paths::File;
 use crate::explaining::seen::{Found, Seen};
-use crate::explaining::texts::{About, Kind, measured};
+use crate::explaining::texts::{About, Kind, measured, takes};
 use crate::message::{Message, message_of};
 use duk_commands::read_decimal;
 use duk_tree::{Iksn, Ksn};
@@ -57,34 +56,35 @@ fn kind_of(about: About<'_, '_>, name: &str) -> Kind {
 /// What is wanted of an argument.
 fn wanted_of(about: About<'_, '_>, name: &str) -> &'static str {
     let has = |option: &str| about.request.flag(option);
-    match (name, about.request.command()) {
-        ("AMOUNT", _) => "a number up to 4294967295",
-        ("ANSWER", _) => "the frame of a reply or of a refusal; show frame tells its fields",
-        ("COUNT" | "K", _) => "a number up to 1048576",
-        ("FIELDS", _) => "7 bytes",
-        ("IKSN", _) => "20 hexadecimal digits, the last 21 bits zeros",
-        ("KBPK" | "LOADING" | "ZONE", _) => DOUBLE_OR_TRIPLE,
-        ("KCV", _) => "6 hexadecimal digits",
-        ("KEY", CommandName::Wrap | CommandName::Data) => DOUBLE_OR_TRIPLE,
-        ("KEY", _) if has("cmac") => DOUBLE_OR_TRIPLE,
-        ("BDK" | "KEY", _) => DOUBLE,
-        ("KIND", _) => "frame, block, image, log or journal",
-        ("KSN" | "NUMBER", _) => "20 hexadecimal digits",
-        ("N", _) => "1 to 100000",
-        ("PAN", _) => "12 to 19 decimal digits",
-        ("PIN", _) => "4 to 12 decimal digits",
-        ("RECORDS", _) => "1 to 1000000000",
-        ("REQUEST", _) => {
+    let enciphers = takes(about.request.command(), "iv");
+    match name {
+        "AMOUNT" => "a number up to 4294967295",
+        "ANSWER" => "the frame of a reply or of a refusal; show frame tells its fields",
+        "COUNT" | "K" => "a number up to 1048576",
+        "FIELDS" => "7 bytes",
+        "IKSN" => "20 hexadecimal digits, the last 21 bits zeros",
+        "KBPK" | "LOADING" | "ZONE" => DOUBLE_OR_TRIPLE,
+        "KCV" => "6 hexadecimal digits",
+        "KEY" if enciphers || has("FIELDS") => DOUBLE_OR_TRIPLE,
+        "KEY" if has("cmac") => DOUBLE_OR_TRIPLE,
+        "BDK" | "KEY" => DOUBLE,
+        "KIND" => "frame, block, image, log or journal",
+        "KSN" | "NUMBER" => "20 hexadecimal digits",
+        "N" => "1 to 100000",
+        "PAN" => "12 to 19 decimal digits",
+        "PIN" => "4 to 12 decimal digits",
+        "RECORDS" => "1 to 1000000000",
+        "REQUEST" => {
             "the frame of a request or a reversal whose number is usable; \
             show frame tells its fields"
         }
-        ("TEXT", CommandName::Data) if has("hex") || has("decipher") => {
+        "TEXT" if enciphers && (has("hex") || has("decipher")) => {
             "16 hexadecimal digits for each of 1 to 255 blocks"
         }
-        ("TEXT", CommandName::Data) => "8 bytes for each of 1 to 255 blocks",
-        ("TEXT", _) if !has("hex") => "one byte or more",
-        ("TEXT" | "PAD", _) => PAIRS,
-        ("WHAT", _) if !(has("text") || has("pan") || has("clear")) => {
+        "TEXT" if enciphers => "8 bytes for each of 1 to 255 blocks",
+        "TEXT" if !has("hex") => "one byte or more",
+        "TEXT" | "PAD" => PAIRS,
+        "WHAT" if !(has("text") || has("pan") || has("clear")) => {
             "the frame of a request, a reversal or a reply, which has a MAC; \
             show frame tells its fields"
         }
@@ -94,7 +94,7 @@ fn wanted_of(about: About<'_, '_>, name: &str) -> &'static str {
 
 /// A key; of several the first that is none, or else the first whose length is not that of KEY 1.
 pub(crate) fn key(about: About<'_, '_>) -> Seen {
-    if !matches!(about.request.command(), CommandName::Kcv) {
+    if !takes(about.request.command(), "components") {
         return refused(about, "KEY");
     }
     let count = about.request.count("KEY");

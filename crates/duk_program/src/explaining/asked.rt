@@ -2,7 +2,7 @@
 
 ghost use Rattle.duk_program.specs.Own.{MayUseOwn};
 
-use crate::command_line::{CommandName, Entry, Request};
+use crate::command_line::{CommandName, Entry, Request, references};
 use crate::commands::show::LONGEST_LOG;
 use crate::explaining::paths::path_of;
 use crate::explaining::places::line_of_fault;
@@ -64,7 +64,7 @@ fn found_unread<S: FileSystem>(
     seen: &Seen,
 ) -> Option<Found> {
     if let Fault::Secret(SecretFault::Unread(secret, _)) = why {
-        let references = about.references(alloc).ok()?;
+        let references = references(alloc, about).ok()?;
         return found_in_reference(files, references.as_slice(), secret.place);
     }
     if let Fault::Text(_) = why {

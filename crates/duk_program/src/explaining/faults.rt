@@ -1,6 +1,5 @@
 //! What is told of each fault, before any file is asked.
 
-use crate::command_line::CommandName;
 use crate::explaining::arguments::{counter, iksn, issue_count, key, refused, text, walk_count};
 use crate::explaining::files::{
     failed, longer, memory, name_of, of_script, of_serve, output, under, unmade, unopened, unread,
@@ -123,7 +122,7 @@ pub(crate) fn of_command(about: About<'_, '_>, why: CommandFault) -> Seen {
 /// A key block, or a key that is wrapped in one.
 fn of_key_block(about: About<'_, '_>, why: BlockFault) -> Seen {
     match why {
-        BlockFault::HeaderField if matches!(about.request.command(), CommandName::Wrap) => {
+        BlockFault::HeaderField if about.request.flag("FIELDS") => {
             about.seen("FIELDS", Kind::Printable, "printable characters")
         }
         BlockFault::Length

@@ -3,7 +3,7 @@
 
 ghost use Rattle.std.specs.Prelude.{◌≡◌, length};
 
-use crate::command_line::{CommandName, Request};
+use crate::command_line::Request;
 use duk_host::UsedNumbers;
 use duk_show::{damaged_record, take_in};
 use duk_store::RECORD_LENGTH;
@@ -26,9 +26,10 @@ fn wrong_number(alloc: Global, about: &Request<'_>, log: &[u8]) -> Option<u64> {
     let mut used = UsedNumbers::new(alloc);
     for (place, record) in log.chunks_exact(RECORD_LENGTH).enumerate() {
         let ksn = number_in(record)?;
-        let is_right = match about.command() {
-            CommandName::Issue => ksn.counter() == 0,
-            _ => take_in(&mut used, ksn).ok()?,
+        let is_right = if about.flag("ledger") {
+            ksn.counter() == 0
+        } else {
+            take_in(&mut used, ksn).ok()?
         };
         if !is_right {
             return Some(place as u64);

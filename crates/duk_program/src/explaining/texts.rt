@@ -1,6 +1,6 @@
 //! The texts of arguments, and what is told of one.
 
-use crate::command_line::{CommandName, Entry, Request, help_name};
+use crate::command_line::{CommandName, Entry, Request, help_name, usage_of};
 use crate::explaining::seen::{Found, Seen};
 
 /// A request that is explained.
@@ -40,6 +40,16 @@ impl<'a> About<'_, 'a> {
     pub(crate) fn seen(self, name: &'static str, kind: Kind, wanted: &'static str) -> Seen {
         self.seen_at(name, 0, kind).wanted(wanted)
     }
+}
+
+/// Whether a command takes an argument of this name.
+pub(crate) fn takes(command: CommandName, name: &str) -> bool {
+    for argument in usage_of(command).arguments {
+        if argument.name() == name {
+            return true;
+        }
+    }
+    false
 }
 
 /// The text of the argument of a request with this name, of several that at a place; empty where

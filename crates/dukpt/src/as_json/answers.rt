@@ -4,7 +4,7 @@ ghost use Rattle.std.specs.Prelude.{◌≡◌, [], OnOk};
 ghost use Rattle.std.specs.Io.KnownBytes.{Appends};
 
 use crate::as_json::objects::Objects;
-use crate::as_json::shape::Shape;
+use duk_program::Shape;
 use std::alloc::{AllocError, Global};
 use std::io::{self, Write};
 

@@ -7,7 +7,7 @@ ghost use Rattle.dukpt.specs.inner.Objects.{AddsObjects, answer_line};
 use crate::as_json::answer::Answer;
 use crate::as_json::names::{may_come_again, named};
 use crate::as_json::object::push_object;
-use crate::as_json::shape::Shape;
+use duk_program::Shape;
 use std::alloc::{AllocError, Global};
 use std::{mem, str};
 

@@ -1,6 +1,6 @@
 use Rattle.std.proofs.Common.{◌≡◌, None, bytes_eq, find, take}
 use Rattle.duk_program.specs.CommandLine.{row_of}
-use Rattle.duk_program.specs.declared.command_line.name.CommandName.{CommandName}
+use Rattle.duk_arguments.specs.declared.name.CommandName.{CommandName}
 use Rattle.duk_program.proofs.command_line.command_named.Given as goal
 
 -- no command so far is written so

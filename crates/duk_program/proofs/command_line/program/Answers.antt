@@ -3,7 +3,7 @@ use Rattle.std.proofs.lemmas.List.{map-append, take_more}
 use Rattle.std.proofs.lemmas.Grind.{fold-append}
 use Rattle.clap.specs.Words.{App, Shape, with_subcommand}
 use Rattle.duk_program.specs.CommandLine.{all_commands, command_line, program_shape, row_of, shape_of_row}
-use Rattle.duk_program.specs.declared.command_line.name.CommandName.{CommandName}
+use Rattle.duk_arguments.specs.declared.name.CommandName.{CommandName}
 use Rattle.duk_program.proofs.command_line.program.Goals as goal
 
 abbrev shape_named : CommandName → Shape

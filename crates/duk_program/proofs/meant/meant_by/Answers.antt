@@ -1,6 +1,6 @@
 use Rattle.std.proofs.Common.{◌∙◌, subst, sym}
 use Rattle.std.proofs.lemmas.List.{length-map}
-use Rattle.duk_program.specs.Request.{references_in}
+use Rattle.duk_program.specs.References.{references_in}
 use Rattle.duk_program.specs.Secrets.{EachMeans, secrets_in}
 use Rattle.duk_program.proofs.meant.meant_by.Goals as goal
 

@@ -1,7 +1,7 @@
 use Rattle.std.proofs.Common.{◌∙◌, List, ℕ, ap, arith, string_bytes}
 use Rattle.std.proofs.lemmas.List.{map_push}
 use Rattle.duk_program.specs.CommandLine.{row_of}
-use Rattle.duk_program.specs.Request.{help_name}
+use Rattle.duk_program.specs.References.{help_name}
 use Rattle.duk_program.proofs.Entries.{their_name, their_texts}
 use Rattle.duk_program.proofs.InputRead.{all_read, first_unread_at, none_read, reads_more}
 use Rattle.duk_program.proofs.references.read_texts.Goals as goal

@@ -5,5 +5,5 @@ use Rattle.duk_program.proofs.command_line.arguments.command_of.Given as goal
 
 -- the command has the arguments so far
 abbrev pub invariant-loop-argument : goal.invariant-loop-argument
-invariant-loop-argument l = IsCommand (shape_of_row (row l.usage.name.now
+invariant-loop-argument l = IsCommand (shape_of_row (row l.usage.name.now l.usage.way
     (map parameter_of (take l.argument-index l.usage.arguments.now)))) l.command

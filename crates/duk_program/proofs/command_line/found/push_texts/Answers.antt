@@ -3,7 +3,7 @@ use Rattle.std.proofs.Math.Seq.{take-length}
 use Rattle.std.specs.Borrow.{Bor}
 use Rattle.std.specs.Prelude.{unwrap_or}
 use Rattle.clap.specs.Words.{Text}
-use Rattle.duk_program.specs.Request.{pair_of}
+use Rattle.duk_arguments.specs.Request.{pair_of}
 use Rattle.duk_program.proofs.command_line.found.push_texts.Goals as goal
 
 named : (name : Text) (texts : List (Bor Text)) → map {B = Text × Text} (λ text. (name, text.now)) texts

@@ -1,5 +1,5 @@
 use Rattle.std.proofs.Common.{◌≡◌, ◌++◌, map, take}
-use Rattle.duk_program.specs.Request.{pair_of}
+use Rattle.duk_arguments.specs.Request.{pair_of}
 use Rattle.duk_program.proofs.command_line.found.push_texts.Given as goal
 
 -- the texts so far are added

@@ -1,7 +1,7 @@
 use Rattle.std.proofs.Common.{◌≡◌, flat_map, map, take}
 use Rattle.clap.specs.Words.{found_of, rows_of}
 use Rattle.duk_program.specs.Asked.{entries_found}
-use Rattle.duk_program.specs.Request.{pair_of}
+use Rattle.duk_arguments.specs.Request.{pair_of}
 use Rattle.duk_program.specs.inner.CommandLine.{parameter_of}
 use Rattle.duk_program.proofs.command_line.found.request_of.Given as goal
 

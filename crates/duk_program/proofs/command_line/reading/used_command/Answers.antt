@@ -5,7 +5,7 @@ use Rattle.clap.specs.Words.{Row, Text, found_of, rows_of, subcommand_name_of, s
 use Rattle.clap.specs.declared.parser.matches.ArgMatches.{ArgMatches}
 use Rattle.clap.specs.declared.parser.matches.ArgMatches.TheViews.{out-ArgMatches, out-SubCommand}
 use Rattle.duk_program.specs.Asked.{AsksAfter}
-use Rattle.duk_program.specs.Request.{Written}
+use Rattle.duk_arguments.specs.Request.{Written}
 use Rattle.duk_program.proofs.Failures.{both_of, unnamed}
 use Rattle.duk_program.proofs.Named.{name_found}
 use Rattle.duk_program.proofs.command_line.reading.used_command.Goals as goal

@@ -1,6 +1,6 @@
 use Rattle.std.proofs.Common.{inl, inr}
 use Rattle.std.specs.Prelude.{codes}
-use Rattle.duk_program.specs.Request.{text_in, value_in}
+use Rattle.duk_arguments.specs.Request.{text_in, value_in}
 use Rattle.duk_commands.specs.Answer.{streams}
 use Rattle.duk_program.specs.IssueFiles.{IsIssuedTo, issue_files_known, issuing}
 use Rattle.duk_store.specs.DiskLog.{disk_log_meaning, new_disk_log}

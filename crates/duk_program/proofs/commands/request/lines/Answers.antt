@@ -1,7 +1,7 @@
 use Rattle.std.proofs.Common.{◌≡◌, ◌∙◌, List, [], None, Option, Some, ap, false, is_some, option_map, sym, true, ℕ}
 use Rattle.std.specs.Borrow.{Bor}
 use Rattle.std.specs.Prelude.{codes, unwrap_or}
-use Rattle.duk_program.specs.Request.{flag_in, text_in, value_in}
+use Rattle.duk_arguments.specs.Request.{flag_in, text_in, value_in}
 use Rattle.duk_program.specs.Commands.{request_or_reversal}
 use Rattle.duk_program.proofs.CommandLines.{lines, refused}
 use Rattle.duk_program.proofs.commands.request.lines.Goals as goal

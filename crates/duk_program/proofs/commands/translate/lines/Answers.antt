@@ -1,6 +1,6 @@
 use Rattle.std.specs.Prelude.{codes}
 use Rattle.duk_commands.specs.PinBlocks.{translate_arguments, translate_of}
-use Rattle.duk_program.specs.Request.{text_in}
+use Rattle.duk_arguments.specs.Request.{text_in}
 use Rattle.duk_program.proofs.CommandLines.{refused}
 use Rattle.duk_program.proofs.commands.translate.lines.Goals as goal
 

@@ -1,6 +1,6 @@
 use Rattle.std.proofs.lemmas.Result.{IfErr-weaker}
 use Rattle.std.specs.Prelude.{codes}
-use Rattle.duk_program.specs.Request.{flag_in, text_in, value_in}
+use Rattle.duk_arguments.specs.Request.{flag_in, text_in, value_in}
 use Rattle.duk_commands.specs.Walk.{walk_arguments, walk_of}
 use Rattle.duk_program.proofs.CommandLines.{not_done}
 use Rattle.duk_program.proofs.commands.walk.write.Goals as goal

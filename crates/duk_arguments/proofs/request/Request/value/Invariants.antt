@@ -1,6 +1,6 @@
 use Rattle.std.proofs.Common.{◌≡◌, [], bytes_eq, filter, map, take}
-use Rattle.duk_program.specs.Request.{pair_of}
-use Rattle.duk_program.proofs.command_line.request.Request.value.Given as goal
+use Rattle.duk_arguments.specs.Request.{pair_of}
+use Rattle.duk_arguments.proofs.request.Request.value.Given as goal
 
 -- no text so far
 abbrev pub invariant-loop-entry : goal.invariant-loop-entry

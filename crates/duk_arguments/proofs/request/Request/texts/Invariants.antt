@@ -1,6 +1,6 @@
 use Rattle.std.proofs.Common.{◌≡◌, bytes_eq, filter, map, take}
-use Rattle.duk_program.specs.Request.{pair_of}
-use Rattle.duk_program.proofs.command_line.request.Request.texts.Given as goal
+use Rattle.duk_arguments.specs.Request.{pair_of}
+use Rattle.duk_arguments.proofs.request.Request.texts.Given as goal
 
 -- the texts so far
 abbrev pub invariant-loop-entry : goal.invariant-loop-entry
