@@ -65,8 +65,8 @@ class Mistakes(Case):
         status, lines, said = self.run_tool("--list")
         self.assertEqual((status, said), (0, ""))
         found = [it for it in lines if it.endswith(": to be found")]
-        self.assertGreaterEqual(len(found), 250)
-        self.assertGreaterEqual(len(lines), 300)
+        self.assertGreaterEqual(len(found), 180)
+        self.assertGreaterEqual(len(lines), 240)
 
     def test_list_with_a_stranger(self) -> None:
         """A label that is none is told, and so is one without a reason."""
