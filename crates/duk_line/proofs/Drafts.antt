@@ -1,16 +1,23 @@
 -- Drafts, and the answers that they become.
-use Rattle.std.proofs.Common.{◌≡◌, ◌≢◌, ◌<◌, ◌+◌, ◌++◌, ◌∷◌, ◌∙◌, ℕ, zero, suc, List, [], ap, arith, below_more, get_or, get_or-set_other, get_or-set_same, length, map, refl, set, subst, sym}
+use Rattle.std.proofs.Common.{◌≡◌, ◌≢◌, ◌<◌, ◌+◌, ◌++◌, ◌∷◌, ◌∙◌, ℕ, zero, suc, List, [], Result, Ok, Err, IfErr, IfOk, ap, arith, below_more, get_or, get_or-set_other, get_or-set_same, length, map, refl, set, subst, sym}
 use Rattle.std.proofs.lemmas.List.{append_assoc, map_push}
+use Rattle.arrayvec.specs.ArrayVec.{ArrayVec}
 use Rattle.duk_frame.specs.Frame.{framed}
 use Rattle.duk_frame.specs.Payment.{authenticated}
 use Rattle.duk_group.specs.Numbers.{number_at}
-use Rattle.duk_hsm.specs.Commands.{HasTransactionKey, IsReplyMac, IsTransactionKey}
+use Rattle.duk_hsm.specs.Commands.{HasTransactionKey, IsReplyMac, IsTransactionKey, NoTransactionKey}
 use Rattle.duk_hsm.specs.Keys.{HsmKeys}
+use Rattle.duk_hsm.specs.TransactionKeys.{AreTransactionKeys, TransactionKeys}
+use Rattle.duk_hsm.specs.declared.fault.HsmFault.{HsmFault}
+use Rattle.duk_hsm.specs.declared.fault.HsmFault.TheVariants as hsm_fault
 use Rattle.duk_tree.specs.Derivation.{derived_key_of, response_key_of}
 use Rattle.duk_tree.specs.Serial.{Serial}
+use Rattle.duk_line.specs.Candidate.{IsAnswered}
+use Rattle.duk_line.specs.Steps.{IsAnswerOf, number_in}
 use Rattle.duk_line.specs.declared.draft.Draft.{Draft}
 use Rattle.duk_line.specs.declared.draft.Draft.TheVariants.{Whole, Reply}
-use Rattle.duk_line.specs.inner.Draft.{AreDraftsUnder, IsDraftUnder, found_key, frame_of, frame_with, key_under, text_in}
+use Rattle.duk_line.specs.declared.settlement.Settled.{Settled}
+use Rattle.duk_line.specs.inner.Draft.{AreDraftsUnder, IsDraftOf, IsDraftUnder, found_key, frame_of, frame_with, key_under, text_in}
 
 -- a transaction key is that of its number
 pub key_is_under : (keys : HsmKeys) (ksn : Serial) (key : List ℕ) → IsTransactionKey keys ksn key → key ≡ key_under keys ksn
@@ -54,3 +61,33 @@ written_below P xs i x none room below here =
     below_more (λ p. P p (get_or (set xs i x) p none)) i
     (λ p h. let other : p ≢ i = omega arith in subst (P p) (sym (get_or-set_other xs i p x none other)) (below p h))
     (subst (P i) (sym (get_or-set_same xs i x none room)) here)
+
+-- ---- what was settled elsewhere
+
+-- no number both has a transaction key and lacks one
+apart : (keys : HsmKeys) (ksn : Serial) (why : HsmFault) → HasTransactionKey keys ksn → NoTransactionKey keys ksn why → ⊥
+apart keys ksn hsm_fault.NoKeySet (key, has) none = absurd (cc (has.held, none))
+apart keys ksn hsm_fault.BadCounter (key, has) bad = bad.unusable has.usable
+apart keys ksn (hsm_fault.Block why) has none = none
+apart keys ksn hsm_fault.WrongUse has none = none
+apart keys ksn hsm_fault.PrefixTaken has none = none
+apart keys ksn hsm_fault.SlotsFull has none = none
+apart keys ksn hsm_fault.ZoneTaken has none = none
+apart keys ksn hsm_fault.BadMac has none = none
+apart keys ksn hsm_fault.NoZone has none = none
+apart keys ksn hsm_fault.BadPinBlock has none = none
+
+-- it is answered with its draft, where its number was opened
+pub answered_by :
+    (keys : HsmKeys) (settled : Settled) (draft : Draft) (mac : List ℕ) (opened : Result TransactionKeys HsmFault) (frame : ArrayVec ℕ) → IsDraftOf settled draft
+    → IfOk opened (AreTransactionKeys keys (number_in settled)) → IfErr opened (NoTransactionKey keys (number_in settled))
+    → (HasTransactionKey keys (number_in settled) → 0 < length (text_in draft) → IsReplyMac keys (number_in settled) (text_in draft) mac)
+    → IfOk opened (λ _. frame.items ≡ frame_with draft mac) → IfErr opened (λ _. frame.items ≡ []) → IsAnswered keys settled frame
+answered_by keys settled draft mac (Ok given) frame is opens refused made frame_is none_is =
+    let has : HasTransactionKey keys (number_in settled) = (given.key, opens.key_is) in
+    record {
+      answer = λ has. subst (λ bytes. IsAnswerOf keys settled bytes) (sym (frame_is ∙ completed keys (number_in settled) draft mac (is.under keys has) made)) (is.answer keys has);
+      none = λ why lacks. absurd (apart keys (number_in settled) why has lacks);
+    }
+answered_by keys settled draft mac (Err why) frame is opens refused made frame_is none_is =
+    record { answer = λ has. absurd (apart keys (number_in settled) why has refused); none = λ other lacks. none_is }

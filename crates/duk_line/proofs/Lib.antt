@@ -12,6 +12,7 @@ pub mod Indexed
 pub mod Judging
 pub mod NumbersOpened
 pub mod Drafts
+pub mod Paired
 pub mod ReasonsAgainst
 pub mod Steps
 pub mod Settling

@@ -13,12 +13,15 @@ use Rattle.duk_reversal.specs.Reversal.{IsReversal}
 use Rattle.duk_reversal.specs.declared.reversal.Reversal.{Reversal}
 use Rattle.duk_reversal.specs.declared.state.ReversalState.{ReversalState}
 use Rattle.duk_tree.specs.Serial.{Serial, serial_bytes}
+use Rattle.duk_line.specs.Candidate.{IsCandidate, IsItsOwnCode, IsOfCandidate}
 use Rattle.duk_line.specs.Judgement.{IsJudged, IsPaymentKept, IsReasonAgainst as IsReasonAgainstReversal, IsSettled, LineBasis, MayBeTaken, line_basis, refusal_of, reversal_entry, without_repeats}
 use Rattle.duk_journal.specs.Standing.{payment_entry}
 use Rattle.duk_line.specs.Steps.{IsAdmissible, IsAnswerOf, IsAsked, IsCodeFor, IsPurchase, IsPurchaseKnown, IsReversalAsked, IsReversalKnown, IsSettledBy, added_by, number_in, purchase_of}
 use Rattle.duk_line.specs.declared.authentic.Authentic.{Authentic}
 use Rattle.duk_line.specs.declared.authentic.Authentic.TheVariants as authentic
 use Rattle.duk_line.specs.declared.authentic.Purchase.{Purchase}
+use Rattle.duk_line.specs.declared.candidate.Candidate.{Candidate}
+use Rattle.duk_line.specs.declared.candidate.Candidate.TheVariants as candidate
 use Rattle.duk_line.specs.declared.reason.Reason.{Reason}
 use Rattle.duk_line.specs.declared.reason.Reason.TheVariants as reason
 use Rattle.duk_line.specs.declared.settlement.Settled.{Settled}
@@ -177,3 +180,22 @@ pub number_is : (keys : HsmKeys) (bytes : List ℕ) (ksn : Serial) (settled : Se
 number_is keys bytes ksn (settled.Payment purchase settlement) is number =
     number.request is.no_reversal is.request is.is_request ∙ sym (ap (λ (purchase : Purchase). purchase.number) is.purchase_is)
 number_is keys bytes ksn (settled.Reversal reversal settlement) is number = number.reversal reversal is.is_reversal
+
+-- ---- what a candidate has
+
+pub of_candidate :
+    (keys : HsmKeys) (entries : Entries) (capacity room : ℕ) (decides : Decision) (bytes : List ℕ) (one : Candidate) (settled : Settled)
+    → IsCandidate keys decides bytes one → IsOfCandidate one settled → IsSettledBy entries capacity room (IsItsOwnCode one) settled
+    → IsAsked keys bytes settled × IsSettledBy entries capacity room (IsCodeFor keys decides bytes) settled
+of_candidate keys entries capacity room decides bytes (candidate.Payment purchase code) (settled.Payment same (Kept other)) is of settles =
+    (subst (λ purchase. IsPurchase keys bytes purchase) (sym of) is.0, (settles.0, subst (λ code. IsCodeFor keys decides bytes code) (sym settles.1) is.1))
+of_candidate keys entries capacity room decides bytes (candidate.Payment purchase code) (settled.Payment same (KnownAgain other)) is of settles =
+    (subst (λ purchase. IsPurchase keys bytes purchase) (sym of) is.0, settles)
+of_candidate keys entries capacity room decides bytes (candidate.Payment purchase code) (settled.Payment same Used) is of settles =
+    (subst (λ purchase. IsPurchase keys bytes purchase) (sym of) is.0, settles)
+of_candidate keys entries capacity room decides bytes (candidate.Payment purchase code) (settled.Payment same Full) is of settles =
+    (subst (λ purchase. IsPurchase keys bytes purchase) (sym of) is.0, settles)
+of_candidate keys entries capacity room decides bytes (candidate.Payment purchase code) (settled.Reversal reversal settlement) is of settles = absurd of
+of_candidate keys entries capacity room decides bytes (candidate.Reversal one) (settled.Payment purchase settlement) is of settles = absurd of
+of_candidate keys entries capacity room decides bytes (candidate.Reversal one) (settled.Reversal reversal settlement) is of settles =
+    (subst (λ reversal. IsReversalAsked keys bytes reversal) (sym of) is, settles)

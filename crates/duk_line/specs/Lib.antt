@@ -2,6 +2,7 @@ pub mod Latest
 pub mod Judgement
 pub mod Judged
 pub mod Steps
+pub mod Candidate
 pub mod Host
 pub mod Restart
 pub mod Check

@@ -83,7 +83,7 @@ impl Draft {
     }
 
     /// The answer, with this MAC where it lacks one.
-    fn with_mac(&self, mac: [u8; MAC_LENGTH]) -> Frame
+    pub(crate) fn with_mac(&self, mac: [u8; MAC_LENGTH]) -> Frame
         ensures { result.items ≡ frame_with self.now mac }
     {
         match self {
@@ -132,7 +132,7 @@ pub(crate) fn complete(opened: &OpenedGroup, drafts: &[Draft], group: &mut Group
 }
 
 /// The texts of the MACs that are to be made, each at the place of its answer.
-fn texts_of<'a>(drafts: &'a [Draft]) -> [&'a [u8]; WIDTH]
+pub(crate) fn texts_of<'a>(drafts: &'a [Draft]) -> [&'a [u8]; WIDTH]
     requires few { length drafts.now ≤ WIDTH }
     ensures { (place : ℕ) → place < length drafts.now
         → message_at result place ≡ bytes_at (map text_in drafts.now) place }

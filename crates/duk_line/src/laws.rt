@@ -27,6 +27,7 @@ ghost use Rattle.duk_reversal.specs.declared.state.ReversalState.{ReversalState}
 ghost use Rattle.duk_store.specs.StoreState.{FindsWithin};
 ghost use Rattle.duk_store.specs.declared.fault.StoreFault.TheVariants.{Damaged};
 ghost use Rattle.duk_tree.specs.Serial.{Serial};
+ghost use Rattle.duk_line.specs.Candidate.{IsCandidate, IsItsOwnCode, IsOfCandidate};
 ghost use Rattle.duk_line.specs.Check.{CheckRefused, IsChecked};
 ghost use Rattle.duk_line.specs.Host.{HostOf, host_meaning_of};
 ghost use Rattle.duk_line.specs.Judged.{AreJudged, AreRepliesOf, AreReversalRepliesOf, AreTwoGroups, IsAsTold, IsReplyOf, IsReversalReplyOf, TellWhatIsKept, TellsAlike, TellsReversal};
@@ -37,6 +38,7 @@ ghost use Rattle.duk_line.specs.Restart.{HostRestartRefused, IsHostRestarted, Is
 ghost use Rattle.duk_line.specs.Serve.{IsReadToEnd, Service, ServiceFailed};
 ghost use Rattle.duk_line.specs.Steps.{IsAnswerOf, IsAsked, IsCodeFor, IsDismissed, IsSettledBy, added_by};
 ghost use Rattle.duk_line.specs.View.{HaveOneRing, host_view};
+ghost use Rattle.duk_line.specs.declared.candidate.Candidate.{Candidate};
 ghost use Rattle.duk_line.specs.declared.check.Checked.{Checked};
 ghost use Rattle.duk_line.specs.declared.group.Group.TheInside as group;
 ghost use Rattle.duk_line.specs.declared.host.JournalHost.TheInside as host;
@@ -65,7 +67,8 @@ pub fn grouping()
 
 /// A frame may be judged in three steps, whatever keeps the entries. What is authenticated by the
 /// keys, settled by the entries, and answered with what came of that, is judged so; and so is a frame
-/// that is refused whatever is kept.
+/// that is refused whatever is kept. A candidate, whose code was given before it is settled, is one
+/// that is authenticated.
 pub fn steps()
     ensures dismissed { (keys : HsmKeys) (entries : Entries) (capacity room : ℕ)
         → (decides : Decision) (bytes frame : List ℕ) → IsDismissed keys bytes frame
@@ -75,6 +78,12 @@ pub fn steps()
         → IsSettledBy entries capacity room (IsCodeFor keys decides bytes) settled
         → IsAnswerOf keys settled frame
         → IsJudged (line_basis keys entries capacity room decides) bytes frame (added_by settled) }
+    ensures candidate { (keys : HsmKeys) (entries : Entries) (capacity room : ℕ)
+        → (decides : Decision) (bytes : List ℕ) (candidate : Candidate) (settled : Settled)
+        → IsCandidate keys decides bytes candidate → IsOfCandidate candidate settled
+        → IsSettledBy entries capacity room (IsItsOwnCode candidate) settled
+        → IsAsked keys bytes settled
+        × IsSettledBy entries capacity room (IsCodeFor keys decides bytes) settled }
 {
     duk_frame::laws::one_reading();
 }

@@ -8,7 +8,9 @@
 //! many at a time. A restart reads the journal by large pieces.
 #![tactic(auto)]
 
+mod answer;
 mod authentic;
+mod candidate;
 mod check;
 mod draft;
 mod group;
@@ -26,7 +28,9 @@ mod settle;
 mod settlement;
 mod workspace;
 
+pub use answer::answer_together;
 pub use authentic::Purchase;
+pub use candidate::{Candidate, Judgement, judge_together};
 pub use check::{Checked, check_journal};
 pub use group::{Group, MOST_FRAMES};
 pub use host::JournalHost;

@@ -18,6 +18,7 @@ use crate::reason::Reason;
 use duk_frame::Code;
 use duk_journal::{Decided, Entry};
 use duk_reversal::{Reversal, ReversalState};
+use duk_tree::Ksn;
 
 /// What becomes of an authentic frame by what is kept.
 #[derive(Clone, Copy)]
@@ -55,6 +56,16 @@ impl Settled {
                 Some(reversal_entry(reversal, *state))
             }
             _ => None,
+        }
+    }
+
+    /// The number that it uses.
+    pub(crate) fn number(&self) -> Ksn
+        ensures { result ≡ number_in self.now }
+    {
+        match self {
+            Settled::Payment(purchase, _) => purchase.number,
+            Settled::Reversal(reversal, _) => reversal.numbers.ksn(),
         }
     }
 

@@ -7,8 +7,10 @@ use Rattle.duk_hsm.specs.Commands.{HasTransactionKey}
 use Rattle.duk_hsm.specs.Keys.{HsmKeys, key_set_of}
 use Rattle.duk_tree.specs.Derivation.{derived_key_of, response_key_of}
 use Rattle.duk_tree.specs.Serial.{Serial, prefix_of}
+use Rattle.duk_line.specs.Steps.{IsAnswerOf, number_in}
 use Rattle.duk_line.specs.declared.draft.Draft.{Draft}
 use Rattle.duk_line.specs.declared.draft.Draft.TheVariants.{Whole, Reply}
+use Rattle.duk_line.specs.declared.settlement.Settled.{Settled}
 
 -- the key that was found, and no bytes where there is none
 abbrev pub found_key : Option (List ℕ) → List ℕ
@@ -48,3 +50,10 @@ AreDraftsUnder keys numbers [] = Unit {0}
 AreDraftsUnder keys [] (draft ∷ drafts) = ⊥
 AreDraftsUnder keys (ksn ∷ numbers) (draft ∷ drafts) =
     IsDraftUnder keys ksn draft × AreDraftsUnder keys numbers drafts
+
+-- a draft becomes the answer to what was settled, wherever the number of that has a transaction key
+pub record IsDraftOf (settled : Settled) (draft : Draft) : Type 0 where
+  pub answer : (keys : HsmKeys) → HasTransactionKey keys (number_in settled)
+      → IsAnswerOf keys settled (frame_of keys draft)
+  pub under : (keys : HsmKeys) → HasTransactionKey keys (number_in settled)
+      → IsDraftUnder keys (number_in settled) draft
