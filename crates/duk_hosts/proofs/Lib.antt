@@ -1,0 +1,10 @@
+pub mod Members
+pub mod Settling
+pub mod Turns
+pub mod Histories
+pub mod SameAsOne
+pub mod Standing
+pub mod Again
+pub mod Accepted
+pub mod Undone
+pub mod GoingOn

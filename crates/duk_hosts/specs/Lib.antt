@@ -1,0 +1,4 @@
+pub mod Book
+pub mod Events
+pub mod OneHost
+pub mod Told

@@ -1,0 +1,148 @@
+//! Laws of many hosts over one book, each the contract of a function that does nothing.
+//!
+//! Each law is over all events that may happen among the hosts and the book: frames come to any host,
+//! in any order and again; what a host judged long ago may be settled now, again, or by another host;
+//! and what was settled may be answered at any later time, more than once, or never.
+
+ghost use Rattle.std.specs.Prelude.{◌≡◌, ◌-◌, ◌++◌, [], ◌∷◌, ℕ, List, Contains, length, map};
+ghost use Rattle.duk_host.specs.Judgement.{Decision};
+ghost use Rattle.duk_host.specs.Lifetime.{AcceptsAlike, AcceptsNumber};
+ghost use Rattle.duk_journal.specs.Groups.{Entries};
+ghost use Rattle.duk_journal.specs.Standing.{Stands, UseNewNumbers, reversed_numbers};
+ghost use Rattle.duk_reversal.specs.Numbers.{Numbers};
+ghost use Rattle.duk_reversal.specs.declared.state.ReversalState.{ReversalState};
+ghost use Rattle.duk_tree.specs.Serial.{Serial};
+ghost use Rattle.duk_line.specs.Judged.{AreJudged, AreRepliesOf, AreReversalRepliesOf, IsAsTold, TellWhatIsKept, TellsAlike, TellsNumber, TellsReversal};
+ghost use Rattle.duk_line.specs.Judgement.{line_basis};
+ghost use Rattle.duk_line.specs.Steps.{added_by, number_in};
+ghost use Rattle.duk_line.specs.declared.candidate.Candidate.{Candidate};
+ghost use Rattle.duk_line.specs.declared.settlement.Settled.{Settled};
+ghost use Rattle.duk_hosts.specs.Book.{Book, Bound, IsSettledIn};
+ghost use Rattle.duk_hosts.specs.Events.{Answers, Event, Hosts, IsHistory, Judged, Judges, Outcome, Settles, Turn, all_answers, all_outcomes, kept_after};
+ghost use Rattle.duk_hosts.specs.OneHost.{DidAsOne, DoesFor, InTurn, IsTurnOf};
+ghost use Rattle.duk_hosts.specs.Told.{FindsNoRoom, IsSettledAgain, RefusesPayment, WasAccepted};
+
+/// Whatever many hosts do is what one host could have done over a journal: it has the frames in the
+/// order in which they were refused or settled, keeps the same entries, and gives each answer that
+/// any of them gave. Where all hosts have one issuer, these frames are judged in turn with it, so each
+/// law of one host is one of many. A book without bound is a journal that is not half full and answers
+/// all that it keeps again; the other laws need no such journal.
+pub fn one_host()
+    ensures same { (hosts : Hosts) (book : Book) (events : List Event) (capacity : ℕ)
+        → IsHistory hosts book events → DoesFor book.bound (kept_after book events) capacity
+        → DidAsOne hosts book events capacity }
+    ensures judged { (hosts : Hosts) (decides : Decision) (entries added : Entries)
+        → (capacity : ℕ) (turns : List Turn) → ((host : ℕ) → hosts.decides host ≡ decides)
+        → InTurn (IsTurnOf hosts capacity) entries turns added
+        → AreJudged
+        (line_basis hosts.keys entries capacity (capacity - length entries) decides)
+        (map (λ turn. turn.ask.frame) turns) (map (λ turn. turn.answer) turns) added }
+{
+    duk_line::laws::steps();
+}
+
+/// Each number is used at most once by what the book keeps, where that was so at first.
+pub fn at_most_once()
+    ensures { (hosts : Hosts) (book : Book) (events : List Event) → IsHistory hosts book events
+        → UseNewNumbers book.first → UseNewNumbers (kept_after book events) }
+{
+    duk_line::laws::steps();
+    duk_line::laws::new_numbers();
+}
+
+/// An accepted reply of any host is the reply to an entry that the book keeps when it is given, and
+/// stays one whatever happens later. So is a reply to a reversal.
+pub fn kept()
+    ensures { (hosts : Hosts) (book : Book) (events later : List Event)
+        → IsHistory hosts book (events ++ later)
+        → AreRepliesOf hosts.keys (kept_after book (events ++ later)) (all_answers events)
+        × AreReversalRepliesOf hosts.keys (kept_after book (events ++ later)) (all_answers events) }
+{
+    duk_line::laws::steps();
+    duk_line::laws::one_reply();
+}
+
+/// All accepted replies to one number are equal, byte for byte, whatever hosts give them and whenever;
+/// and so are all replies to reversals that use one number. No number has replies of both kinds.
+pub fn equal_replies()
+    ensures equal { (hosts : Hosts) (book : Book) (events : List Event) → IsHistory hosts book events
+        → UseNewNumbers book.first
+        → AcceptsAlike (all_answers events) × TellsAlike (all_answers events) }
+    ensures one_kind { (hosts : Hosts) (book : Book) (events : List Event) (number : Serial)
+        → (one other : List ℕ) → IsHistory hosts book events → UseNewNumbers book.first
+        → Contains (all_answers events) one → Contains (all_answers events) other
+        → AcceptsNumber number one → ¬ TellsNumber number other }
+{
+    at_most_once();
+    kept();
+    duk_line::laws::one_reply();
+}
+
+/// Once a reversal of a number is kept, no payment of that number is accepted any more, also one that
+/// a host judged before: it is settled as one of a used number. A host may still give the reply to a
+/// payment that was settled before, and no other. And no payment of the number ever stands.
+pub fn undone()
+    ensures refused { (hosts : Hosts) (book : Book) (events later : List Event)
+        → (number : Serial) (outcome : Outcome) → IsHistory hosts book (events ++ later)
+        → Contains (reversed_numbers (kept_after book events)) number
+        → Contains (all_outcomes later) outcome → RefusesPayment number outcome.settled }
+    ensures late { (hosts : Hosts) (book : Book) (events later : List Event)
+        → (number : Serial) (answer : List ℕ) → IsHistory hosts book (events ++ later)
+        → Contains (reversed_numbers (kept_after book events)) number
+        → Contains (all_answers later) answer → AcceptsNumber number answer
+        → WasAccepted hosts events number answer }
+    ensures never_stands { (hosts : Hosts) (book : Book) (events later : List Event)
+        → (number : Serial) → Contains (reversed_numbers (kept_after book events)) number
+        → ¬ Stands (kept_after book (events ++ later)) number }
+{
+    duk_line::laws::steps();
+    duk_line::laws::one_reply();
+}
+
+/// Each reversal tells what stands: that a payment is undone exactly where an approved payment of the
+/// number that it reverses is kept. What any host tells of one stays so, whatever happens later, where
+/// that was so of the entries that the book kept at first.
+pub fn told()
+    ensures { (hosts : Hosts) (book : Book) (events later : List Event) (answer : List ℕ)
+        → (numbers : Numbers) (state : ReversalState)
+        → IsHistory hosts book (events ++ later) → TellWhatIsKept book.first
+        → Contains (all_answers events) answer → TellsReversal numbers state answer
+        → IsAsTold (kept_after book (events ++ later)) numbers state }
+{
+    kept();
+    duk_line::laws::steps();
+    duk_line::laws::told_what_stands();
+}
+
+/// What is settled again changes nothing that is kept. Once a number is settled, but for want of room,
+/// each later settlement of it is known again, or refused as of a used number. And a candidate for
+/// which there was no room once is never kept.
+pub fn settled_again()
+    ensures known { (hosts : Hosts) (book : Book) (events : List Event)
+        → (before after : List Outcome) (earlier again : Outcome)
+        → IsHistory hosts book events → all_outcomes events ≡ before ++ again ∷ after
+        → Contains before earlier → number_in earlier.settled ≡ number_in again.settled
+        → ¬ FindsNoRoom earlier.settled → IsSettledAgain again.settled }
+    ensures nothing { (hosts : Hosts) (book : Book) (events : List Event)
+        → (before after : List Outcome) (earlier again : Outcome)
+        → IsHistory hosts book events → all_outcomes events ≡ before ++ again ∷ after
+        → Contains before earlier → earlier.judged.candidate ≡ again.judged.candidate
+        → added_by again.settled ≡ [] }
+{}
+
+/// Whatever happened, what any host ever judged may be settled now, and what was ever settled may be
+/// answered now, again too. So no host waits for another, or has to know that one stopped. And a book
+/// settles each candidate in some way, whatever it keeps.
+pub fn goes_on()
+    ensures settled { (hosts : Hosts) (book : Book) (events : List Event) (judged : Judged)
+        → IsHistory hosts book events → Contains events (Judges judged)
+        → (settled : Settled) × IsHistory hosts book
+        (events ++ Settles (record { judged = judged; settled = settled } ∷ []) ∷ []) }
+    ensures answered { (hosts : Hosts) (book : Book) (events : List Event) (outcome : Outcome)
+        → IsHistory hosts book events → Contains (all_outcomes events) outcome
+        → (answer : List ℕ) × IsHistory hosts book (events ++ Answers outcome answer ∷ []) }
+    ensures somehow { (bound : Bound) (entries : Entries) (candidate : Candidate)
+        → (settled : Settled) × IsSettledIn bound entries candidate settled }
+{
+    duk_line::laws::steps();
+}
