@@ -1,0 +1,11 @@
+mod BroughtUp
+mod DiskRead
+mod GroupWritten
+mod Kept
+mod LogRecords
+mod Places
+mod ReadInTurn
+mod RecordsOnDisk
+mod RecordsRead
+mod StepsInTurn
+mod WrittenBytes

@@ -1,0 +1,4 @@
+pub mod Groups
+pub mod GroupSteps
+pub mod Reading
+pub mod RecordSteps
