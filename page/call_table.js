@@ -61,6 +61,11 @@ export const CALLS = {
   reversal_reply: [READ, READ, READ, READ, 64, COUNT],
   read_reversal_reply: [READ, 10, 10, WORD],
   check_reversal_reply: [READ, READ, READ, READ],
+  module_new: [READ, 4706],
+  module_load_bdk: [READ, READ, CHANGED],
+  module_load_zone: [READ, CHANGED],
+  host_judge: [READ, READ, READ, { size: 64, each: 64, of: 2 }],
+  host_answer: [READ, READ, { size: 64, each: 64, of: 1 }],
   frame_length: [READ, WORD],
 };
 
@@ -71,7 +76,8 @@ export const FAULT_NAMES = [
   "BlockHeaderField", "BlockOptionalBlock", "BlockHex", "BlockMac", "BlockPayload",
   "BlockPadLength", "NotARequest", "NotAReply", "NotARefusal", "NotACode", "NotAReason", "NotMine",
   "BadMac", "PartOfFrame", "TooLong", "NotReversed", "NotAReversal", "NotAState",
-  "NotAReversalReply", "OtherUsage", "OtherKeyLength", "NoOptionalBlock",
+  "NotAReversalReply", "OtherUsage", "OtherKeyLength", "NoOptionalBlock", "NotAModule", "WrongUse",
+  "PrefixTaken", "SlotsFull", "ZoneTaken", "NoZone", "NotACard", "NotSettled", "NoKeySet",
 ];
 
 /** The number of each fault. */
@@ -83,4 +89,6 @@ export const STATUS = {
   NOT_A_REPLY: 22, NOT_A_REFUSAL: 23, NOT_A_CODE: 24, NOT_A_REASON: 25, NOT_MINE: 26, BAD_MAC: 27,
   PART_OF_FRAME: 28, TOO_LONG: 29, NOT_REVERSED: 30, NOT_A_REVERSAL: 31, NOT_A_STATE: 32,
   NOT_A_REVERSAL_REPLY: 33, OTHER_USAGE: 34, OTHER_KEY_LENGTH: 35, NO_OPTIONAL_BLOCK: 36,
+  NOT_A_MODULE: 37, WRONG_USE: 38, PREFIX_TAKEN: 39, SLOTS_FULL: 40, ZONE_TAKEN: 41, NO_ZONE: 42,
+  NOT_A_CARD: 43, NOT_SETTLED: 44, NO_KEY_SET: 45,
 };

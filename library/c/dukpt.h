@@ -20,7 +20,8 @@
  * at once in any number of threads, as long as none writes what another one uses.
  *
  * Keys. Parity bits are neither checked nor adjusted. A call leaves keys and PINs on the stack:
- * dukpt_wipe_stack overwrites them.
+ * dukpt_wipe_stack overwrites them. The image of a security module and the cards of an issuer are
+ * the caller's, who overwrites them when they are done with, with explicit_bzero or memset_s.
  *
  * Time. It is not proved, and not promised, that time tells nothing of a key. MACs are compared as
  * one number in every call, so that none ends early at a byte that differs. dukpt_derive_many and
@@ -184,6 +185,10 @@
 #define DUKPT_OPTIONAL_ROOM 251        /* the content of an optional block */
 #define DUKPT_CODE_BYTES 2             /* the code of a reply */
 #define DUKPT_FRAME_ROOM 64            /* a frame with the two bytes of its length */
+#define DUKPT_MODULE_BYTES 4706        /* the image of a security module */
+#define DUKPT_PREFIX_BYTES 5           /* the bytes with which the numbers of a key set begin */
+#define DUKPT_CARD_BYTES 37            /* a card for dukpt_host_judge */
+#define DUKPT_JUDGED_BYTES 64          /* what is judged, settled or answered of a frame */
 
 /* How many bytes of the stack below its caller a call uses at most. It is measured, not proved.
  * dukpt_derive_many and dukpt_check_requests use most of it; the other calls use 16384 at most. */
@@ -252,7 +257,20 @@ enum dukpt_status {
     DUKPT_FAULT_OTHER_USAGE = 34,          /* the key in the key block has another usage, or is no
                                               TDES key */
     DUKPT_FAULT_OTHER_KEY_LENGTH = 35,     /* the key in the key block has another length */
-    DUKPT_FAULT_NO_OPTIONAL_BLOCK = 36     /* the key block has no optional block with this id */
+    DUKPT_FAULT_NO_OPTIONAL_BLOCK = 36,    /* the key block has no optional block with this id */
+    DUKPT_FAULT_NOT_A_MODULE = 37,         /* the bytes are no image of a security module */
+    DUKPT_FAULT_WRONG_USE = 38,            /* the key block's usage, algorithm, mode or key length
+                                              is that of another key */
+    DUKPT_FAULT_PREFIX_TAKEN = 39,         /* the module has a base derivation key for this
+                                              prefix */
+    DUKPT_FAULT_SLOTS_FULL = 40,           /* the module has eight base derivation keys */
+    DUKPT_FAULT_ZONE_TAKEN = 41,           /* the module has a zone key */
+    DUKPT_FAULT_NO_ZONE = 42,              /* the module has no zone key */
+    DUKPT_FAULT_NOT_A_CARD = 43,           /* a place among the cards has no PAN or no PIN */
+    DUKPT_FAULT_NOT_SETTLED = 44,          /* the bytes are no payment and no reversal with what
+                                              became of it */
+    DUKPT_FAULT_NO_KEY_SET = 45            /* the module has no base derivation key for the prefix
+                                              of the key serial number */
 };
 
 #ifdef __cplusplus
@@ -964,6 +982,95 @@ DUKPT_STATUS uint32_t dukpt_check_reversal_reply(const uint8_t *key, size_t key_
                                                  const uint8_t *ksn, size_t ksn_size,
                                                  const uint8_t *reversed, size_t reversed_size,
                                                  const uint8_t *frame, size_t frame_size)
+    DUKPT_NONNULL;
+
+/* Security modules of hosts, each in an image that the caller holds: a local master key (LMK), and
+ * the key blocks of at most eight base derivation keys and a zone key under it (ANSI X9.143). The
+ * image is a format of this project's own. Nothing but the local master key is in the clear in it:
+ * wipe it when it is done with. A call reads it and keeps nothing, so that any number of them may
+ * read one image at once. */
+
+/* Writes the image of a security module that has its local master key alone.
+ *
+ *   lmk     in   16 or 24  local master key, under which key blocks are
+ *   image   out  4706      image
+ *
+ * Answers, in this order: DUKPT_FAULT_LENGTH; DUKPT_OK. */
+DUKPT_STATUS uint32_t dukpt_module_new(const uint8_t *lmk, size_t lmk_size,
+                                       uint8_t *DUKPT_OUT image, size_t image_size)
+    DUKPT_NONNULL;
+
+/* Loads a base derivation key, for the key serial numbers that begin with a prefix.
+ *
+ *   prefix   in      5     the first bytes of the key serial numbers
+ *   block    in      any   key block: usage B0, algorithm T, mode X or N, a key of 16 bytes
+ *   image    in out  4706  image
+ *
+ * Answers, in this order: DUKPT_FAULT_LENGTH; DUKPT_FAULT_NOT_A_MODULE; DUKPT_FAULT_BLOCK_LENGTH;
+ * DUKPT_FAULT_BLOCK_VERSION; DUKPT_FAULT_BLOCK_HEADER_FIELD; DUKPT_FAULT_BLOCK_OPTIONAL_BLOCK;
+ * DUKPT_FAULT_BLOCK_HEX; DUKPT_FAULT_BLOCK_MAC; DUKPT_FAULT_BLOCK_PAYLOAD; DUKPT_FAULT_WRONG_USE;
+ * DUKPT_FAULT_PREFIX_TAKEN; DUKPT_FAULT_SLOTS_FULL; DUKPT_OK. */
+DUKPT_STATUS uint32_t dukpt_module_load_bdk(const uint8_t *prefix, size_t prefix_size,
+                                            const uint8_t *block, size_t block_size,
+                                            uint8_t *DUKPT_OUT image, size_t image_size)
+    DUKPT_NONNULL;
+
+/* Loads the zone key, under which PIN blocks come to the issuer.
+ *
+ *   block   in      any   key block: usage P0, algorithm T, mode E, B or N
+ *   image   in out  4706  image
+ *
+ * Answers, in this order: DUKPT_FAULT_LENGTH; DUKPT_FAULT_NOT_A_MODULE; DUKPT_FAULT_BLOCK_LENGTH;
+ * DUKPT_FAULT_BLOCK_VERSION; DUKPT_FAULT_BLOCK_HEADER_FIELD; DUKPT_FAULT_BLOCK_OPTIONAL_BLOCK;
+ * DUKPT_FAULT_BLOCK_HEX; DUKPT_FAULT_BLOCK_MAC; DUKPT_FAULT_BLOCK_PAYLOAD; DUKPT_FAULT_WRONG_USE;
+ * DUKPT_FAULT_ZONE_TAKEN; DUKPT_OK. */
+DUKPT_STATUS uint32_t dukpt_module_load_zone(const uint8_t *block, size_t block_size,
+                                             uint8_t *DUKPT_OUT image, size_t image_size)
+    DUKPT_NONNULL;
+
+/* The two steps of a host that keeps its book elsewhere, as in a database. It judges frames,
+ * whatever the book keeps; the book settles those that are authentic, each of which uses its key
+ * serial number; and the host answers what was settled. What is judged, settled and answered has 64
+ * bytes each, in a form of this project's own. */
+
+/* Writes what frames are judged to be: 64 bytes for each, which end with zeros. They are the frame
+ * of a refusal, which begins with a zero, for reason 1 to 4. Or they are a payment: 1, 0, its key
+ * serial number (10), amount (4, the highest first), code (2) and MAC (8). Or they are a reversal:
+ * 2, 0, its own key serial number (10), that of the payment (10) and its MAC (8). The code of a
+ * payment is what the issuer says by a table of cards. Each card has 37 bytes: the number of its
+ * PAN's digits, room for 19 of them, the number of its PIN's digits, room for 12, and its limit (4,
+ * the highest first). Of two cards with one PAN the first counts. Each frame stands at the begin of
+ * 64 bytes.
+ *
+ *   image    in   4706                      image of a security module
+ *   cards    in   a multiple of 37          cards, 37 bytes for each
+ *   frames   in   a multiple of 64          frames, 64 bytes for each
+ *   judged   out  64 for each 64 of frames  what each is judged to be, in their order
+ *
+ * Answers, in this order: DUKPT_FAULT_LENGTH; DUKPT_FAULT_NOT_A_MODULE; DUKPT_FAULT_NO_ZONE;
+ * DUKPT_FAULT_NOT_A_CARD; DUKPT_OK. */
+DUKPT_STATUS uint32_t dukpt_host_judge(const uint8_t *image, size_t image_size,
+                                       const uint8_t *cards, size_t cards_size,
+                                       const uint8_t *frames, size_t frames_size,
+                                       uint8_t *DUKPT_OUT judged, size_t judged_size)
+    DUKPT_NONNULL;
+
+/* Writes the answers to what was settled, 64 bytes for each: the frame, which begins with a zero,
+ * and zeros behind it; or the number of a fault, and zeros behind it: DUKPT_FAULT_NOT_SETTLED;
+ * DUKPT_FAULT_NO_KEY_SET; DUKPT_FAULT_NOT_USABLE. No fault comes of what dukpt_host_judge wrote
+ * with what became of it in the second byte: 1 where it is kept from now on, 2 where the same was
+ * kept before, 3 where its key serial number is used, and 4 where there is no room. The code of a
+ * payment that was kept before is the one that was kept. Behind the fields of a reversal that is
+ * kept, or was, stands its state: 1 where the payment is undone, and 0 where none stands.
+ *
+ *   image     in   4706                       image of a security module
+ *   settled   in   a multiple of 64           what was settled, 64 bytes for each
+ *   answers   out  64 for each 64 of settled  the answer to each, in their order
+ *
+ * Answers, in this order: DUKPT_FAULT_LENGTH; DUKPT_FAULT_NOT_A_MODULE; DUKPT_OK. */
+DUKPT_STATUS uint32_t dukpt_host_answer(const uint8_t *image, size_t image_size,
+                                        const uint8_t *settled, size_t settled_size,
+                                        uint8_t *DUKPT_OUT answers, size_t answers_size)
     DUKPT_NONNULL;
 
 /* Streams of frames. */

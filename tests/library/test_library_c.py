@@ -15,7 +15,7 @@ from typing import Sequence
 from ..support.case import Case
 from ..support.library.library import (
     SANITIZED, STRICT, built_library, compiler, copy_sources, demand, linked, program, ran)
-from ..support.library.library_calls import CALLS, Value, answer
+from ..support.library.library_calls import CALLS, DRAWN, Value, answer
 from ..support.program import ROOT, Word
 from ..vectors.test_ciphers import BASE, vectors
 
@@ -67,9 +67,9 @@ class Random(LibraryCase):
         cases_of_each = CASES * self.times
         lines = ran(tried, self.seed_word(), str(cases_of_each), str(BY_CLIENT)).splitlines()
         done = [line.split(" ")[1] for line in lines if line.startswith("done ")]
-        self.assertEqual(done, list(CALLS))
+        self.assertEqual(done, DRAWN)
         cases = [line for line in lines if line.startswith("case ")]
-        self.assertEqual(len(cases), BY_CLIENT * len(CALLS))
+        self.assertEqual(len(cases), BY_CLIENT * len(DRAWN))
         for case in cases:
             self.check_case(case)
         self.tells(f"{cases_of_each:,} cases of each of {len(done)} calls")
@@ -90,7 +90,7 @@ class Sizes(LibraryCase):
 
     def test_sizes(self) -> None:
         lines = ran(program("lengths", self.folder()), self.seed_word(), "20").splitlines()
-        self.assertEqual([line.split(" ")[1] for line in lines], list(CALLS))
+        self.assertEqual([line.split(" ")[1] for line in lines], DRAWN)
         wrong = sum(int(line.split(" ")[4]) for line in lines)
         self.tells(f"{wrong:,} wrong sizes")
 

@@ -6,7 +6,7 @@ import subprocess
 from typing import Sequence
 
 from ..support.library.library import demand, program, ran
-from ..support.library.library_calls import CALLS
+from ..support.library.library_calls import DRAWN
 from ..support.program import Word
 from .test_library_c import STACK_BYTES, LibraryCase
 
@@ -56,7 +56,7 @@ class Stack(LibraryCase):
         *calls, wipe = ran(tried, self.seed_word(), str(STACK_CASES)).splitlines()
         words = [line.split(" ") for line in calls]
         found = {word[1]: [int(it) for it in word[2:]] for word in words}
-        self.assertEqual(list(found), list(CALLS))
+        self.assertEqual(list(found), DRAWN)
         return found, int(wipe.removeprefix("wipe "))
 
     def test_wiped(self) -> None:
@@ -104,7 +104,7 @@ class Time(LibraryCase):
              str(SECRET_CASES), *words], capture_output=True, text=True, check=False)
         self.assertEqual(done.returncode, 0, done.stderr[-2000:])
         called = [line.removeprefix("done dukpt_") for line in done.stdout.splitlines()]
-        every = [name.removeprefix("dukpt_") for name in CALLS]
+        every = [name.removeprefix("dukpt_") for name in DRAWN]
         self.assertEqual(called, [only] if only else [it for it in every if it not in COMPARING])
         return done.stderr
 

@@ -1,2 +1,5 @@
 pub mod Parts
 pub mod Places
+pub mod Loading
+pub mod Entries
+pub mod HostPlaces

@@ -45,6 +45,15 @@ fault_number fault.NotAReversalReply = 33
 fault_number fault.OtherUsage = 34
 fault_number fault.OtherKeyLength = 35
 fault_number fault.NoOptionalBlock = 36
+fault_number fault.NotAModule = 37
+fault_number fault.WrongUse = 38
+fault_number fault.PrefixTaken = 39
+fault_number fault.SlotsFull = 40
+fault_number fault.ZoneTaken = 41
+fault_number fault.NoZone = 42
+fault_number fault.NotACard = 43
+fault_number fault.NotSettled = 44
+fault_number fault.NoKeySet = 45
 
 -- a fault's name
 abbrev pub fault_name : Fault → List ℕ
@@ -74,3 +83,12 @@ fault_name fault.NotAReversalReply = codes "NotAReversalReply"
 fault_name fault.OtherUsage = codes "OtherUsage"
 fault_name fault.OtherKeyLength = codes "OtherKeyLength"
 fault_name fault.NoOptionalBlock = codes "NoOptionalBlock"
+fault_name fault.NotAModule = codes "NotAModule"
+fault_name fault.WrongUse = codes "WrongUse"
+fault_name fault.PrefixTaken = codes "PrefixTaken"
+fault_name fault.SlotsFull = codes "SlotsFull"
+fault_name fault.ZoneTaken = codes "ZoneTaken"
+fault_name fault.NoZone = codes "NoZone"
+fault_name fault.NotACard = codes "NotACard"
+fault_name fault.NotSettled = codes "NotSettled"
+fault_name fault.NoKeySet = codes "NoKeySet"

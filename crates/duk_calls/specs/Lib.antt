@@ -11,3 +11,6 @@ pub mod Frames
 pub mod Requests
 pub mod Replies
 pub mod Reversals
+pub mod Modules
+pub mod Hosts
+pub mod inner

@@ -65,6 +65,24 @@ pub enum Fault {
     OtherKeyLength,
     /// 36: the key block has no optional block with this id.
     NoOptionalBlock,
+    /// 37: the bytes are no security module.
+    NotAModule,
+    /// 38: the key block's usage, algorithm, mode of use or key length is not that of such a key.
+    WrongUse,
+    /// 39: the module has a base derivation key for this prefix.
+    PrefixTaken,
+    /// 40: the module has eight base derivation keys.
+    SlotsFull,
+    /// 41: the module has a zone key.
+    ZoneTaken,
+    /// 42: the module has no zone key.
+    NoZone,
+    /// 43: a place among the cards has none.
+    NotACard,
+    /// 44: the bytes are no payment and no reversal with its settlement.
+    NotSettled,
+    /// 45: the module has no base derivation key for the prefix of the key serial number.
+    NoKeySet,
 }
 
 impl Fault {
@@ -109,6 +127,15 @@ impl Fault {
             Fault::OtherUsage => 34,
             Fault::OtherKeyLength => 35,
             Fault::NoOptionalBlock => 36,
+            Fault::NotAModule => 37,
+            Fault::WrongUse => 38,
+            Fault::PrefixTaken => 39,
+            Fault::SlotsFull => 40,
+            Fault::ZoneTaken => 41,
+            Fault::NoZone => 42,
+            Fault::NotACard => 43,
+            Fault::NotSettled => 44,
+            Fault::NoKeySet => 45,
         }
     }
 }
@@ -147,6 +174,15 @@ impl fmt::Display for Fault {
             Fault::OtherUsage => f.write_str("OtherUsage"),
             Fault::OtherKeyLength => f.write_str("OtherKeyLength"),
             Fault::NoOptionalBlock => f.write_str("NoOptionalBlock"),
+            Fault::NotAModule => f.write_str("NotAModule"),
+            Fault::WrongUse => f.write_str("WrongUse"),
+            Fault::PrefixTaken => f.write_str("PrefixTaken"),
+            Fault::SlotsFull => f.write_str("SlotsFull"),
+            Fault::ZoneTaken => f.write_str("ZoneTaken"),
+            Fault::NoZone => f.write_str("NoZone"),
+            Fault::NotACard => f.write_str("NotACard"),
+            Fault::NotSettled => f.write_str("NotSettled"),
+            Fault::NoKeySet => f.write_str("NoKeySet"),
         }
     }
 }

@@ -9,15 +9,20 @@
 
 ghost use Rattle.std.specs.Prelude.{◌≡◌};
 
+mod answering;
 mod arguments;
 mod blocks;
+mod cards;
 mod ciphers;
 mod fault;
 mod frames;
+mod judging;
 mod keys;
 mod macs;
 mod many_keys;
 mod many_requests;
+mod module_keys;
+mod modules;
 mod numbers;
 mod optional;
 mod pins;
@@ -26,10 +31,12 @@ mod replies;
 mod requests;
 mod reversals;
 
+pub use answering::host_answer;
 pub use blocks::{unwrap, unwrap_for, wrap};
 pub use ciphers::{cbc_decrypt, cbc_encrypt, tdes_decrypt, tdes_encrypt};
 pub use fault::{Fault, status};
 pub use frames::frame_length;
+pub use judging::host_judge;
 pub use keys::{
     derive, derive_from_initial, initial_key, pin_key, request_data_key, request_key,
     response_data_key, response_key,
@@ -37,6 +44,7 @@ pub use keys::{
 pub use macs::{check_value, cmac, cmac_check_value, retail_mac};
 pub use many_keys::derive_many;
 pub use many_requests::check_requests;
+pub use modules::{module_load_bdk, module_load_zone, module_new};
 pub use numbers::{check_usable, next_number};
 pub use optional::{unwrap_optional, wrap_with};
 pub use pins::{pin_block, pin_of_block};

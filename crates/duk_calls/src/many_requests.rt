@@ -80,7 +80,7 @@ fn right_macs(bdk: &Key<16>, frames: &[u8]) -> [[u8; 8]; WIDTH]
 }
 
 /// The frame with which bytes begin.
-fn front_frame(bytes: &[u8]) -> &[u8]
+pub(crate) fn front_frame(bytes: &[u8]) -> &[u8]
     requires { 2 ≤ length bytes.now }
     ensures { result.now ≡ front_frame bytes.now }
 {

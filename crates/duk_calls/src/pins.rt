@@ -75,7 +75,7 @@ pub(crate) fn read_pan(text: &[u8]) -> Result<Pan, PinFault>
 }
 
 /// The PIN of ASCII digits.
-fn pin_of_digits(text: &[u8]) -> Option<Pin>
+pub(crate) fn pin_of_digits(text: &[u8]) -> Option<Pin>
     ensures { MatchOption result (¬ IsPin text.now) (λ pin. (pin ≡ text.now) × IsPin text.now) }
 {
     duk_pin::laws::digits_are_text();
@@ -83,7 +83,7 @@ fn pin_of_digits(text: &[u8]) -> Option<Pin>
 }
 
 /// The PAN of ASCII digits.
-fn pan_of_digits(text: &[u8]) -> Option<Pan>
+pub(crate) fn pan_of_digits(text: &[u8]) -> Option<Pan>
     ensures { MatchOption result (¬ IsPan text.now) (λ pan. (pan ≡ text.now) × IsPan text.now) }
 {
     duk_pin::laws::digits_are_text();

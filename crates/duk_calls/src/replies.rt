@@ -185,7 +185,7 @@ fn refusal_in(frame: &[u8]) -> Option<RefusalFields>
 }
 
 /// The code of two digits.
-fn read_code(digits: [u8; 2]) -> Option<Code>
+pub(crate) fn read_code(digits: [u8; 2]) -> Option<Code>
     ensures { MatchOption result (IsNoCode digits) (λ code. code_text code ≡ digits) }
 {
     match &digits {

@@ -183,7 +183,7 @@ pub fn check_reversal_reply(
 }
 
 /// The numbers of a reversal, in ten bytes each, where the first can reverse the second.
-fn numbers_of(ksn: &[u8], reversed: &[u8]) -> Option<ReversalNumbers>
+pub(crate) fn numbers_of(ksn: &[u8], reversed: &[u8]) -> Option<ReversalNumbers>
     requires ksn { length ksn.now ≡ 10 }
     requires reversed { length reversed.now ≡ 10 }
     ensures { MatchOption result

@@ -24,6 +24,8 @@ ghost use Rattle.duk_calls.specs.Blocks.{UnwrapAnswers, UnwrapForAnswers, Unwrap
 ghost use Rattle.duk_calls.specs.Requests.{CheckRequestAnswers, CheckRequestsAnswers, PaymentRequestAnswers, ReadRequestAnswers, RequestPinAnswers, payment, request_parts};
 ghost use Rattle.duk_calls.specs.Replies.{CheckReplyAnswers, ReadRefusalAnswers, ReadReplyAnswers, RequestRefusalAnswers, RequestReplyAnswers, refusal_parts, reply_parts};
 ghost use Rattle.duk_calls.specs.Reversals.{CheckReversalAnswers, CheckReversalReplyAnswers, ReadReversalAnswers, ReadReversalReplyAnswers, ReversalReplyAnswers, ReversalRequestAnswers, reversal_parts, reversal_reply_parts, reversing};
+ghost use Rattle.duk_calls.specs.Modules.{ModuleLoadBdkAnswers, ModuleLoadZoneAnswers, ModuleNewAnswers};
+ghost use Rattle.duk_calls.specs.Hosts.{HostAnswerAnswers, HostJudgeAnswers};
 ghost use Rattle.duk_calls.specs.Frames.{FrameLengthAnswers};
 
 use duk_calls::status;
@@ -594,6 +596,64 @@ pub extern "C" fn dukpt_check_reversal_reply(
         frame.now) }
 {
     status(duk_calls::check_reversal_reply(key, ksn, reversed, frame))
+}
+
+/// Writes the image of a security module that has its local master key alone.
+#[unsafe(no_mangle)]
+pub extern "C" fn dukpt_module_new(lmk: &[u8], image: &mut [u8]) -> u32
+    ensures { Reports result (ModuleNewAnswers lmk.now image.old image.new) }
+{
+    status(duk_calls::module_new(lmk, image))
+}
+
+/// Loads a base derivation key, for the key serial numbers that begin with a prefix.
+#[unsafe(no_mangle)]
+pub extern "C" fn dukpt_module_load_bdk(prefix: &[u8], block: &[u8], image: &mut [u8]) -> u32
+    ensures { Reports result (ModuleLoadBdkAnswers prefix.now block.now image.old image.new) }
+{
+    status(duk_calls::module_load_bdk(prefix, block, image))
+}
+
+/// Loads the zone key, under which PIN blocks come to the issuer.
+#[unsafe(no_mangle)]
+pub extern "C" fn dukpt_module_load_zone(block: &[u8], image: &mut [u8]) -> u32
+    ensures { Reports result (ModuleLoadZoneAnswers block.now image.old image.new) }
+{
+    status(duk_calls::module_load_zone(block, image))
+}
+
+/// Writes what frames are judged to be: 64 bytes for each, which end with zeros. They are the frame
+/// of a refusal, which begins with a zero, for reason 1 to 4. Or they are a payment: 1, 0, its key
+/// serial number (10), amount (4, the highest first), code (2) and MAC (8). Or they are a reversal:
+/// 2, 0, its own key serial number (10), that of the payment (10) and its MAC (8). The code of a
+/// payment is what the issuer says by a table of cards. Each card has 37 bytes: the number of its
+/// PAN's digits, room for 19 of them, the number of its PIN's digits, room for 12, and its limit
+/// (4, the highest first). Of two cards with one PAN the first counts. Each frame stands at the
+/// begin of 64 bytes.
+#[unsafe(no_mangle)]
+pub extern "C" fn dukpt_host_judge(
+    image: &[u8],
+    cards: &[u8],
+    frames: &[u8],
+    judged: &mut [u8],
+) -> u32
+    ensures { Reports result (HostJudgeAnswers image.now cards.now frames.now judged.old judged.new) }
+{
+    status(duk_calls::host_judge(image, cards, frames, judged))
+}
+
+/// Writes the answers to what was settled, 64 bytes for each: the frame, which begins with a zero,
+/// and zeros behind it; or the number of a fault, and zeros behind it: `NotSettled`; `NoKeySet`;
+/// `NotUsable`. No fault comes of what `host_judge` wrote with what became of it in the second
+/// byte: 1 where it is kept from now on, 2 where the same was kept before, 3 where its key serial
+/// number is used, and 4 where there is no room. The code of a payment that was kept before is the
+/// one that was kept. Behind the fields of a reversal that is kept, or was, stands its state: 1
+/// where the payment is undone, and 0 where none stands.
+#[unsafe(no_mangle)]
+pub extern "C" fn dukpt_host_answer(image: &[u8], settled: &[u8], answers: &mut [u8]) -> u32
+    ensures { Reports result (HostAnswerAnswers image.now settled.now answers.old answers.new) }
+{
+    status(duk_calls::host_answer(image, settled, answers))
 }
 
 /// Writes how many bytes the frame has with which these begin, the two of its length counted.

@@ -21,6 +21,7 @@ from ._keys import (
     response_data_key, response_key)
 from ._library import version
 from ._macs import check_value, cmac, cmac_check_value, retail_mac
+from ._module import Card, Judged, Module, Payment, Refused, Settled, Settlement
 from ._numbers import check_usable, next_number
 from ._pins import pin_block, pin_of_block
 from ._registers import (
@@ -38,8 +39,9 @@ from ._version import __version__
 from .faults import DukptError
 
 __all__ = [
-    "DukptError", "KeyBlock", "NONE_STANDS", "Refusal", "Reply", "Request", "Reversal",
-    "ReversalReply", "Secret", "Taken", "Terminal", "Transaction", "UNDONE", "__version__",
+    "Card", "DukptError", "Judged", "KeyBlock", "Module", "NONE_STANDS", "Payment", "Refusal",
+    "Refused", "Reply", "Request", "Reversal", "ReversalReply", "Secret", "Settled", "Settlement",
+    "Taken", "Terminal", "Transaction", "UNDONE", "__version__",
     "cbc_decrypt", "cbc_encrypt", "check_reply", "check_request", "check_requests",
     "check_reversal", "check_reversal_reply", "check_usable", "check_value", "cmac",
     "cmac_check_value", "derive", "derive_from_initial", "derive_many", "faults", "frame_length",

@@ -94,5 +94,10 @@ EXPORTS: Final[Mapping[str, Mapping[str, Kind]]] = {
         "frame": "bytes", "ksn": "buffer", "reversed": "buffer", "state": "count"},
     "dukpt_check_reversal_reply": {
         "key": "bytes", "ksn": "bytes", "reversed": "bytes", "frame": "bytes"},
+    "dukpt_module_new": {"lmk": "bytes", "image": "buffer"},
+    "dukpt_module_load_bdk": {"prefix": "bytes", "block": "bytes", "image": "buffer"},
+    "dukpt_module_load_zone": {"block": "bytes", "image": "buffer"},
+    "dukpt_host_judge": {"image": "bytes", "cards": "bytes", "frames": "bytes", "judged": "buffer"},
+    "dukpt_host_answer": {"image": "bytes", "settled": "bytes", "answers": "buffer"},
     "dukpt_frame_length": {"bytes": "bytes", "count": "count"},
 }

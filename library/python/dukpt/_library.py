@@ -136,6 +136,9 @@ def as_number(name: str, value: object) -> int:
 def spread(kind: Kind, name: str, value: object) -> tuple[object, ...]:
     """An argument as the words of the call."""
     if kind == "bytes":
+        # Keys in a buffer are not copied: the copy could not be wiped.
+        if isinstance(value, ctypes.Array):
+            return value, len(value)
         held = as_bytes(name, value)
         return held, len(held)
     if kind == "buffer":

@@ -169,6 +169,42 @@ class NoOptionalBlock(DukptError, number=36):
     """the key block has no optional block with this id"""
 
 
+class NotAModule(DukptError, number=37):
+    """the bytes are no image of a security module"""
+
+
+class WrongUse(DukptError, number=38):
+    """the key block's usage, algorithm, mode or key length is that of another key"""
+
+
+class PrefixTaken(DukptError, number=39):
+    """the module has a base derivation key for this prefix"""
+
+
+class SlotsFull(DukptError, number=40):
+    """the module has eight base derivation keys"""
+
+
+class ZoneTaken(DukptError, number=41):
+    """the module has a zone key"""
+
+
+class NoZone(DukptError, number=42):
+    """the module has no zone key"""
+
+
+class NotACard(DukptError, number=43):
+    """a place among the cards has no PAN or no PIN"""
+
+
+class NotSettled(DukptError, number=44):
+    """the bytes are no payment and no reversal with what became of it"""
+
+
+class NoKeySet(DukptError, number=45):
+    """the module has no base derivation key for the prefix of the key serial number"""
+
+
 # Each fault by its number.
 FAULTS: Final[Mapping[int, type[DukptError]]] = {
     fault.number: fault for fault in DukptError.__subclasses__()}

@@ -22,6 +22,20 @@ impl<const N: usize> Bytes<N> {
         let length = count as usize;
         Ok(Bytes { bytes, length })
     }
+
+    /// These bytes, which are no more than `N`.
+    pub(crate) fn of(given: &[u8]) -> Self {
+        let mut bytes = [0; N];
+        bytes[..given.len()].copy_from_slice(given);
+        Bytes { bytes, length: given.len() }
+    }
+}
+
+/// No bytes.
+impl<const N: usize> Default for Bytes<N> {
+    fn default() -> Self {
+        Bytes::of(&[])
+    }
 }
 
 impl<const N: usize> Deref for Bytes<N> {

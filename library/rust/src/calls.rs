@@ -302,6 +302,26 @@ pub fn check_reversal_reply(key: &[u8], ksn: &[u8], reversed: &[u8], frame: &[u8
     call!(dukpt_check_reversal_reply: read key, read ksn, read reversed, read frame)
 }
 
+pub fn module_new(lmk: &[u8], image: &mut [u8]) -> u32 {
+    call!(dukpt_module_new: read lmk, write image)
+}
+
+pub fn module_load_bdk(prefix: &[u8], block: &[u8], image: &mut [u8]) -> u32 {
+    call!(dukpt_module_load_bdk: read prefix, read block, write image)
+}
+
+pub fn module_load_zone(block: &[u8], image: &mut [u8]) -> u32 {
+    call!(dukpt_module_load_zone: read block, write image)
+}
+
+pub fn host_judge(image: &[u8], cards: &[u8], frames: &[u8], judged: &mut [u8]) -> u32 {
+    call!(dukpt_host_judge: read image, read cards, read frames, write judged)
+}
+
+pub fn host_answer(image: &[u8], settled: &[u8], answers: &mut [u8]) -> u32 {
+    call!(dukpt_host_answer: read image, read settled, write answers)
+}
+
 pub fn frame_length(bytes: &[u8], count: &mut u32) -> u32 {
     call!(dukpt_frame_length: read bytes, set count)
 }

@@ -401,5 +401,43 @@ extern "C" {
         frame: *const u8,
         frame_size: usize,
     ) -> u32;
+    pub fn dukpt_module_new(
+        lmk: *const u8,
+        lmk_size: usize,
+        image: *mut u8,
+        image_size: usize,
+    ) -> u32;
+    pub fn dukpt_module_load_bdk(
+        prefix: *const u8,
+        prefix_size: usize,
+        block: *const u8,
+        block_size: usize,
+        image: *mut u8,
+        image_size: usize,
+    ) -> u32;
+    pub fn dukpt_module_load_zone(
+        block: *const u8,
+        block_size: usize,
+        image: *mut u8,
+        image_size: usize,
+    ) -> u32;
+    pub fn dukpt_host_judge(
+        image: *const u8,
+        image_size: usize,
+        cards: *const u8,
+        cards_size: usize,
+        frames: *const u8,
+        frames_size: usize,
+        judged: *mut u8,
+        judged_size: usize,
+    ) -> u32;
+    pub fn dukpt_host_answer(
+        image: *const u8,
+        image_size: usize,
+        settled: *const u8,
+        settled_size: usize,
+        answers: *mut u8,
+        answers_size: usize,
+    ) -> u32;
     pub fn dukpt_frame_length(bytes: *const u8, bytes_size: usize, count: *mut u32) -> u32;
 }

@@ -32,6 +32,7 @@ mod key;
 mod keys;
 mod ksn;
 mod macs;
+mod module;
 mod numbers;
 mod pins;
 mod registers;
@@ -59,6 +60,7 @@ pub use keys::{
 };
 pub use ksn::Ksn;
 pub use macs::{check_value, cmac, cmac_check_value, retail_mac};
+pub use module::{card, Judged, Module, Payment, Settled, Settlement};
 pub use numbers::{check_usable, next_number};
 pub use pins::{pin_block, pin_of_block, Pan, Pin};
 pub use registers::{

@@ -116,20 +116,24 @@ pub fn check_requests<F: AsRef<[u8]>>(
     Ok(())
 }
 
-/// Tests at most a group of frames. One that has not the length which it says stands as zeros,
-/// which are no request's.
+/// Tests at most a group of frames.
 fn check_group<F: AsRef<[u8]>>(bdk: &Key, frames: &[F], results: &mut [Result<(), Fault>]) {
     let (mut places, mut told) = ([0; 64 * GROUP], [0; GROUP]);
     for (place, frame) in places.chunks_exact_mut(64).zip(frames) {
-        let frame = frame.as_ref();
-        if is_whole(frame) {
-            place[..frame.len()].copy_from_slice(frame);
-        }
+        place_in(frame.as_ref(), place);
     }
     let told = &mut told[..frames.len()];
     sure(calls::check_requests(bdk.as_bytes(), &places[..64 * frames.len()], told));
     for (result, status) in results.iter_mut().zip(told) {
         *result = done(u32::from(*status));
+    }
+}
+
+/// Writes a frame in front of the zeros of a place. One that has not the length which it says stands
+/// as zeros, which are malformed as it is.
+pub(crate) fn place_in(frame: &[u8], place: &mut [u8]) {
+    if is_whole(frame) {
+        place[..frame.len()].copy_from_slice(frame);
     }
 }
 

@@ -19,6 +19,8 @@ from .library_blocks import (
 from .library_frames import (
     check_reply, check_request, write_frame_length, write_refusal, write_refusal_parts, write_reply,
     write_reply_parts, write_request, write_request_parts, write_request_pin, write_verdicts)
+from .library_modules import (
+    write_answers, write_bdk_loaded, write_judged, write_module, write_zone_loaded)
 from .library_reversals import (
     check_reversal, check_reversal_reply, write_reversal, write_reversal_parts,
     write_reversal_reply, write_reversal_reply_parts)
@@ -26,7 +28,7 @@ from .library_values import (
     BLOCK, FAULTS, IMAGE, KEY, KSN, STATUS, TDES_KEYS, Fault, Value, demand, found_pin, number,
     octets, pan_of, parts, pin_of, roomy, sized)
 
-__all__ = ["CALLS", "FAULTS", "STATUS", "Answer", "Call", "Fault", "Value", "answer"]
+__all__ = ["CALLS", "DRAWN", "FAULTS", "STATUS", "Answer", "Call", "Fault", "Value", "answer"]
 
 
 @dataclass(frozen=True)
@@ -281,5 +283,13 @@ CALLS: dict[str, Call] = {
     "dukpt_reversal_reply": takes("bbbnwc", write_reversal_reply),
     "dukpt_read_reversal_reply": takes("bwwc", write_reversal_reply_parts),
     "dukpt_check_reversal_reply": takes("bbbb", check_reversal_reply),
+    "dukpt_module_new": takes("bw", write_module),
+    "dukpt_module_load_bdk": takes("bbw", write_bdk_loaded),
+    "dukpt_module_load_zone": takes("bw", write_zone_loaded),
+    "dukpt_host_judge": takes("bbbw", write_judged),
+    "dukpt_host_answer": takes("bbw", write_answers),
     "dukpt_frame_length": takes("bc", write_frame_length),
 }
+# The calls whose cases the programs in C draw, and have a peer over OpenSSL for. Those of hosts are
+# tried in test_library_module.
+DRAWN = [name for name in CALLS if not name.startswith(("dukpt_module_", "dukpt_host_"))]

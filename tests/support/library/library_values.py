@@ -13,7 +13,9 @@ FAULTS = (
     "BlockHeaderField", "BlockOptionalBlock", "BlockHex", "BlockMac", "BlockPayload",
     "BlockPadLength", "NotARequest", "NotAReply", "NotARefusal", "NotACode", "NotAReason",
     "NotMine", "BadMac", "PartOfFrame", "TooLong", "NotReversed", "NotAReversal", "NotAState",
-    "NotAReversalReply", "OtherUsage", "OtherKeyLength", "NoOptionalBlock")
+    "NotAReversalReply", "OtherUsage", "OtherKeyLength", "NoOptionalBlock", "NotAModule",
+    "WrongUse", "PrefixTaken", "SlotsFull", "ZoneTaken", "NoZone", "NotACard", "NotSettled",
+    "NoKeySet")
 STATUS = {name: number for number, name in enumerate(FAULTS)}
 
 KEY, TDES_KEYS, KSN, BLOCK, IMAGE, ROOM, TEXT = 16, (16, 24), 10, 8, 431, 64, 512

@@ -78,7 +78,8 @@ def contract(call: Call) -> str:
     if len(line := front + " ".join(words) + back) <= WIDTH:
         return line
     if not any(map(is_joined, words)):
-        return wrapped(" ".join(words) + back, front, INDENT)
+        # The brace at the end is never alone in a line.
+        return wrapped(" ".join(words) + back, front, INDENT).replace(f"\n{INDENT}}}", " }")
     return front + f"\n{INDENT}".join(parted(words)) + back
 
 

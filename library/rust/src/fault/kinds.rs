@@ -80,11 +80,29 @@ pub enum Fault {
     OtherKeyLength = 35,
     /// The key block has no optional block with this id.
     NoOptionalBlock = 36,
+    /// The bytes are no image of a security module.
+    NotAModule = 37,
+    /// The key block's usage, algorithm, mode or key length is that of another key.
+    WrongUse = 38,
+    /// The module has a base derivation key for this prefix.
+    PrefixTaken = 39,
+    /// The module has eight base derivation keys.
+    SlotsFull = 40,
+    /// The module has a zone key.
+    ZoneTaken = 41,
+    /// The module has no zone key.
+    NoZone = 42,
+    /// A place among the cards has no PAN or no PIN.
+    NotACard = 43,
+    /// The bytes are no payment and no reversal with what became of it.
+    NotSettled = 44,
+    /// The module has no base derivation key for the prefix of the key serial number.
+    NoKeySet = 45,
 }
 
 impl Fault {
     /// Each fault, in the order of the numbers.
-    pub const ALL: [Fault; 36] = [
+    pub const ALL: [Fault; 45] = [
         Fault::Length,
         Fault::NotInitial,
         Fault::NotUsable,
@@ -121,6 +139,15 @@ impl Fault {
         Fault::OtherUsage,
         Fault::OtherKeyLength,
         Fault::NoOptionalBlock,
+        Fault::NotAModule,
+        Fault::WrongUse,
+        Fault::PrefixTaken,
+        Fault::SlotsFull,
+        Fault::ZoneTaken,
+        Fault::NoZone,
+        Fault::NotACard,
+        Fault::NotSettled,
+        Fault::NoKeySet,
     ];
 
     /// What is wrong, as a clause.
@@ -176,6 +203,19 @@ impl Fault {
             Fault::OtherUsage => "the key in the key block has another usage, or is no TDES key",
             Fault::OtherKeyLength => "the key in the key block has another length",
             Fault::NoOptionalBlock => "the key block has no optional block with this id",
+            Fault::NotAModule => "the bytes are no image of a security module",
+            Fault::WrongUse => {
+                "the key block's usage, algorithm, mode or key length is that of another key"
+            }
+            Fault::PrefixTaken => "the module has a base derivation key for this prefix",
+            Fault::SlotsFull => "the module has eight base derivation keys",
+            Fault::ZoneTaken => "the module has a zone key",
+            Fault::NoZone => "the module has no zone key",
+            Fault::NotACard => "a place among the cards has no PAN or no PIN",
+            Fault::NotSettled => "the bytes are no payment and no reversal with what became of it",
+            Fault::NoKeySet => {
+                "the module has no base derivation key for the prefix of the key serial number"
+            }
         }
     }
 }
