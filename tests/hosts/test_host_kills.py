@@ -142,7 +142,7 @@ class Killed(HostCase):
             host.told("the service below ended", at + 1)
             self.assertEqual(idle.ask(given[at + 1].frame), given[at + 1].answer)
             self.assertLess(time.monotonic() - began, SOON)
-        self.assertEqual(host.health(), (200, "serving\n"))
+        self.assertEqual(host.health(), (200, "test keys: serving\n"))
         self.assertEqual(sorted(it.name for it in self.home.iterdir()),
                          ["bank.toml", "journal", "journal.state", "wide.toml"])
 
@@ -153,9 +153,10 @@ class Killed(HostCase):
         host.told("listening on")
         below = host.below()
         os.kill(below, signal.SIGSTOP)
-        self.assertEqual(host.health(), (503, "the service below gives no answer within 2 s\n"))
+        self.assertEqual(
+            host.health(), (503, "test keys: the service below gives no answer within 2 s\n"))
         os.kill(below, signal.SIGCONT)
-        self.assertEqual(host.health(), (200, "serving\n"))
+        self.assertEqual(host.health(), (200, "test keys: serving\n"))
 
     def test_kill_of_the_host(self) -> None:
         """The next one goes on over a checked copy; no process stays behind."""

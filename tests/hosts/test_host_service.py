@@ -15,9 +15,11 @@ import time
 from typing import Iterator, Sequence
 
 from ..service.test_unit import CALL, NAMESPACE, WRITTEN_AND_RUN, filtered
+from ..support.book.hosts import library
 from ..support.program import ROOT, Program
 from ..support.service.client import PAN, PIN, payments, refused_requests
-from ..support.service.host import HERE, HOST, SECONDS, HostCase, children_of
+from ..support.service.host import HERE, HOST, SECONDS, TEST_KEYS, HostCase, children_of
+from ..support.service.host_keys import HostKeys
 from ..support.service.journal_case import stream_of
 
 sys.path.insert(0, str(HOST.parent))
@@ -70,9 +72,10 @@ class Beside(HostCase):
         """mypy finds nothing; no function has more than 40 lines, and no line 100 columns."""
         self.assertIsNotNone(shutil.which("mypy"), "mypy is not installed: apt-get install mypy")
         done = subprocess.run(["mypy", "--strict", "--python-version", "3.11", "--cache-dir",
-                               self.folder(), PACKAGE], capture_output=True, text=True, check=False)
+                               self.folder(), PACKAGE], capture_output=True, text=True, check=False,
+                              env={**os.environ, "MYPYPATH": str(ROOT / "library/python")})
         self.assertEqual(done.returncode, 0, done.stdout + done.stderr)
-        for path in [HOST, *PACKAGE.glob("*.py")]:
+        for path in [HOST, *PACKAGE.rglob("*.py")]:
             text = path.read_text()
             self.assertLessEqual(max(map(len, text.splitlines())), 100, path)
             for it in ast.walk(ast.parse(text)):
@@ -86,11 +89,13 @@ class Beside(HostCase):
         self.assertEqual(done.returncode, 0, f"{done.stdout[-300:]}{done.stderr}")
 
     def test_calls(self) -> None:
-        """The unit forbids no call that host and program make, over a kill and to an end in order."""
+        """The unit forbids no call that host and program make, with key blocks, over a kill and to an
+        end in order."""
         self.make_journal(100)
         given = payments(2)
         trace = self.home / "trace"
-        host = self.start_host(behind=("strace", "-f", "-qq", "-o", str(trace)))
+        host = self.start_host(keys=HostKeys(self.chance).write(self.home), environment=library(),
+                               behind=("strace", "-f", "-qq", "-o", str(trace)))
         client = self.connect(host)
         self.assertEqual(client.ask(given[0].frame), given[0].answer)
         os.kill(host.below(), signal.SIGKILL)
@@ -119,7 +124,7 @@ class Beside(HostCase):
             host = self.start_host(environment={"NOTIFY_SOCKET": str(place), "WATCHDOG_USEC": "400000"})
             found = [told.recv(4096).decode() for _ in range(6)]
             self.assertEqual(found[0], "READY=1")
-            self.assertIn("STATUS=serving", found)
+            self.assertIn("STATUS=test keys: serving", found)
             self.assertGreaterEqual(found.count("WATCHDOG=1"), 3)
             # It is ready only once it answers.
             host.told("serving after")
@@ -143,7 +148,7 @@ class Beside(HostCase):
                       'os.environ["LISTEN_PID"] = str(os.getpid()); os.set_inheritable(3, True); '
                       'os.execv(sys.argv[2], sys.argv[2:])')
             process = subprocess.Popen(
-                [sys.executable, "-c", script, str(listens.fileno()), HOST, "bank.toml",
+                [sys.executable, "-c", script, str(listens.fileno()), HOST, *TEST_KEYS,
                  "--journal", "journal"], cwd=self.home, pass_fds=[listens.fileno()],
                 stderr=subprocess.PIPE, env={**os.environ, "DUKPT": str(self.program.path)})
             self.addCleanup(process.kill)
@@ -183,15 +188,16 @@ class Beside(HostCase):
         for words in ((), ("bank.toml",), ("bank.toml", "--journal"),
                       *(("bank.toml", "--journal", "journal", *it)
                         for it in (("--listen", "7000"), ("--listen", "a:b"), ("--idle", "0"),
-                                   ("--connections", "-1"), ("--tls", "one"), ("more",)))):
+                                   ("--connections", "-1"), ("--tls", "one"), ("more",), ("--not-replicated",),
+                                   ("--postgres", "postgresql:///dukpt")))):
             done = self.run_host(*words)
             self.assertEqual(done.returncode, 2, words)
             self.assertIn("usage: dukpt-host", done.stderr)
 
     def run_host(self, *words: str) -> subprocess.CompletedProcess[str]:
         here = ("--listen", HERE) if "--journal" in words[1:-1] else ()
-        return subprocess.run([HOST, *words, *here], cwd=self.home, capture_output=True, text=True,
-                              timeout=SECONDS, check=False,
+        return subprocess.run([HOST, *words, "--test-keys", *here], cwd=self.home, text=True,
+                              capture_output=True, timeout=SECONDS, check=False,
                               env={**os.environ, "DUKPT": str(self.program.path)})
 
     def test_killed_and_then_not_started(self) -> None:
@@ -270,7 +276,8 @@ class Beside(HostCase):
         client.send(payments(1)[0].frame)
         host.told("the service below ended: status 1: out of memory", 4)
         self.assertGreater(time.monotonic() - began, 0.6)
-        self.assertEqual(host.health(), (503, "the service below ended: status 1: out of memory\n"))
+        self.assertEqual(
+            host.health(), (503, "test keys: the service below ended: status 1: out of memory\n"))
         self.assertEqual(host.stop(), 0)
 
     # Lines

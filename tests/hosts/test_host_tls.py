@@ -7,7 +7,7 @@ from typing import Optional
 
 from ..support.service.certificates import client_context, make_authority, make_certificate
 from ..support.service.client import payments
-from ..support.service.host import HERE, HOST, SECONDS, HostCase, at_once
+from ..support.service.host import HERE, HOST, ON_JOURNAL, SECONDS, TEST_KEYS, HostCase, at_once
 from ..support.service.journal_case import stream_of
 
 TLS = ("--tls", "host.pem", "host.key", "ours.pem")
@@ -76,5 +76,5 @@ class Tls(HostCase):
             self.assertEqual(host.stop(), 0)
 
     def run_host(self, *words: str) -> subprocess.CompletedProcess[str]:
-        return subprocess.run([HOST, "bank.toml", "--journal", "journal", *words], cwd=self.home,
+        return subprocess.run([HOST, *TEST_KEYS, *ON_JOURNAL, *words], cwd=self.home,
                               capture_output=True, text=True, timeout=SECONDS, check=False)

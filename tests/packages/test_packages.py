@@ -103,7 +103,8 @@ def wanted_files(package: str) -> Iterator[tuple[int, str, str]]:
     if package == "dukpt":
         yield from of_folder(f"{doc}/examples", "examples", (".toml", ".script", ".out"))
     elif package == "dukpt-host":
-        yield from of_folder(f"{MODULES}/dukpt_host", "share/host/dukpt_host", (".py",))
+        for it in ("dukpt_host", "dukpt_host/book"):
+            yield from of_folder(f"{MODULES}/{it}", f"share/host/{it}", (".py", ".sql"))
     elif package == "libdukpt-dev":
         # Which pages there are, and what is in them, is seen elsewhere.
         calls = re.findall(r"^    (dukpt_\w+);$", (ROOT / "library/c/dukpt.map").read_text(), re.M)

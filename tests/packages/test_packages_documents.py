@@ -159,8 +159,9 @@ class Records(PackageCase):
                    if it.suffix == ".py" or it.name == "py.typed"}
         wanted: dict[str, Mapping[str, Path]] = {
             "dukpt": {"dukpt": self.program, "page/dukpt.html": ROOT / "page/dukpt.html"},
-            "dukpt-host": {f"share/host/dukpt_host/{it.name}": it
-                           for it in (self.root / "share/host/dukpt_host").glob("*.py")},
+            "dukpt-host": {str(it.relative_to(self.root)): it
+                           for it in (self.root / "share/host/dukpt_host").rglob("*.*")
+                           if it.suffix in (".py", ".sql")},
             "libdukpt0": {"libdukpt.so.0": of_library["libdukpt.so.0"]},
             "libdukpt-dev": {name: path for name, path in of_library.items()
                              if name != "libdukpt.so.0"},

@@ -122,7 +122,9 @@ class Installed(PackageCase):
         self.assertEqual(said.splitlines(), key_lines([1]))
         completion = "/usr/share/bash-completion/completions/dukpt"
         self.run_well("bash", "-c", f". {completion}; complete -p dukpt")
-        units = [f"/{UNITS}/{name}" for name in ("dukpt.socket", "dukpt@.service")]
+        self.run_well("/usr/bin/python3", "-Ic", "import dukpt_host.host, dukpt_host.book.service")
+        units = [f"/{UNITS}/{name}" for name in ("dukpt.socket", "dukpt@.service", "dukpt-host.socket",
+                                                 "dukpt-host.service")]
         ended = self.system.run("systemd-analyze", "verify", *units)
         self.assertEqual(ended, Ended(0, b"", b""))
 
@@ -157,18 +159,20 @@ class Installed(PackageCase):
     # The service
 
     def start_as_documented(self) -> None:
-        """Configuration, log and socket, by the commands of docs/DEPLOYMENT.md. No systemd runs
-        here, so that the socket is enabled and not started."""
+        """Configuration, journal or log, and what listens, by the commands of docs/DEPLOYMENT.md. No
+        systemd runs here, so that a unit is enabled and not started."""
         text = (ROOT / "docs/DEPLOYMENT.md").read_text(encoding="utf-8")
-        block = re.search(r"^\*\*The first start\*\*.*\n\n((?:    .*\n)+)", text, re.M)
-        self.assertIsNotNone(block, "docs/DEPLOYMENT.md has no first start")
-        commands = block[1].replace("enable --now", "enable")
-        self.assertIn("systemctl enable dukpt.socket", commands)
-        self.assertIn(f"new-log used.log {DOCUMENTED}\n", commands)
-        commands = commands.replace(f"used.log {DOCUMENTED}\n", f"used.log {ROOM}\n")
-        self.run_well("bash", "-euc", f"cd /usr/share/doc/dukpt/examples\n{commands}")
-        self.assert_mode(CONFIGURATION, 0o640, 0, self.group)
-        self.assert_mode(f"{LOGS}/used.log", 0o600, self.user, self.group)
+        for front, store, unit in ((r"^## One host(?s:.*?)", "payments.journal", "dukpt-host"),
+                                   (r"^\*\*The first start\*\*.*", "used.log", "dukpt.socket")):
+            block = re.search(front + r"\n\n((?:    .*\n)+)", text, re.M)
+            self.assertIsNotNone(block, f"docs/DEPLOYMENT.md has no {unit}")
+            commands = block[1].replace("enable --now", "enable")
+            self.assertIn(f"systemctl enable {unit}\n", commands)
+            self.assertIn(f"{store} {DOCUMENTED}\n", commands)
+            commands = commands.replace(f"{store} {DOCUMENTED}\n", f"{store} {ROOM}\n")
+            self.run_well("bash", "-euc", f"cd /usr/share/doc/dukpt/examples\n{commands}")
+            self.assert_mode(CONFIGURATION, 0o640, 0, self.group)
+            self.assert_mode(f"{LOGS}/{store}", 0o600, self.user, self.group)
 
     def unit(self, name: str) -> dict[str, str]:
         """The settings of an installed unit."""

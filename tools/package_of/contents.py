@@ -82,28 +82,31 @@ def examples(sources: Sources) -> Iterator[Item]:
 
 
 def host(sources: Sources) -> Package:
-    modules = [it for it in sources.below("share/host/dukpt_host") if it.suffix == ".py"]
+    # By their places below share/host, which they keep.
+    modules = {str(it.relative_to(sources.root / "share/host")): read(it)
+               for it in sources.below("share/host/dukpt_host") if it.suffix in (".py", ".sql")}
     return Package(
         "dukpt-host", "all", "net",
         "payment host keyed by TDES DUKPT: any number of connections",
         """\
 Answers payments and reversals over any number of connections at once, also
-behind TLS, by the service of the package dukpt: it starts that, starts it
-again where it ended and nothing was lost, and has metrics and health.
+behind TLS, and has metrics and health. Over a journal it does so by the
+service of the package dukpt: it starts that, and starts it again where it
+ended and nothing was lost. Over PostgreSQL any number of hosts share one book.
 
 Use test keys alone: it is no certified payment host and no certified HSM.""",
         [Item("usr/bin/dukpt-host", read(sources.root / "share/host/dukpt-host"), EXECUTABLE),
-         *(Item(f"{MODULES}/dukpt_host/{it.name}", read(it)) for it in modules),
+         *(Item(f"{MODULES}/{name}", data) for name, data in modules.items()),
          *(Item(f"usr/lib/systemd/system/dukpt-host.{it}",
                 sources.share("deploy", f"dukpt-host.{it}")) for it in ("service", "socket")),
          Item("usr/share/man/man1/dukpt-host.1.gz",
               compressed(sources.share("man", "dukpt-host.1")))],
         scripts(sources, "dukpt-host"),
-        [f"dukpt (>= {sources.version})", "python3:any (>= 3.11)", "python3-prometheus-client",
-         "python3-systemd"],
+        [f"dukpt (>= {sources.version})", "python3:any (>= 3.11)", "python3-asyncpg",
+         f"python3-dukpt (>= {sources.version})", "python3-prometheus-client", "python3-systemd"],
         proof="none of its modules; of the program that they start: "
         + proof_line(sources.proofs.is_program_proved, sources),
-        made_of={f"share/host/dukpt_host/{it.name}": read(it) for it in modules})
+        made_of={f"share/host/{name}": data for name, data in modules.items()})
 
 
 # The library

@@ -4,30 +4,58 @@ from __future__ import annotations
 import argparse
 import os
 from pathlib import Path
-from typing import Optional, Sequence
+from typing import Optional, Sequence, Union
 
 from .connections import Limits
-from .settings import Address, Settings, Tls
+from .settings import Address, Database, Journal, Settings, Tls
 
 HERE = "127.0.0.1:7000"
-ABOUT = """Answers payments and reversals over any number of connections, by one process of `dukpt
-serve CONFIG --journal FILE`, which it starts, also again where it ended and nothing was lost."""
+GROUPS = 2
+ABOUT = """Answers payments and reversals over any number of connections. Over a journal one
+process of `dukpt serve CONFIG --journal FILE` decides them, which it starts, also again where it
+ended and nothing was lost. Over PostgreSQL any number of hosts share one book, and none has a
+state of its own."""
 
 
 def read(words: Optional[Sequence[str]] = None) -> Settings:
-    told = parser().parse_args(words)
+    made = parser()
+    told = made.parse_args(words)
+    if told.journal and told.not_replicated:
+        made.error("--not-replicated goes with --postgres")
     limits = Limits(told.connections, told.unread, told.idle, told.frame, told.closing)
     return Settings(
-        os.environ.get("DUKPT", "dukpt"), told.config, Path(os.path.realpath(told.journal)),
-        told.listen or [address(HERE)], Tls(*told.tls) if told.tls else None, told.plain,
-        told.metrics, limits)
+        told.config, told.component, told.test_keys, store_of(told), told.listen or [address(HERE)],
+        Tls(*told.tls) if told.tls else None, told.plain, told.metrics, limits)
+
+
+def store_of(told: argparse.Namespace) -> Union[Journal, Database]:
+    if told.journal:
+        program = os.environ.get("DUKPT", "dukpt")
+        return Journal(program, Path(os.path.realpath(told.journal)))
+    return Database(told.postgres, not told.not_replicated, told.groups)
 
 
 def parser() -> argparse.ArgumentParser:
     made = argparse.ArgumentParser(prog="dukpt-host", description=ABOUT)
     add, usual = made.add_argument, Limits()
-    add("config", metavar="CONFIG", help="the configuration, with the keys")
-    add("--journal", metavar="FILE", required=True, help="the journal, which new-journal makes")
+    add("config", metavar="CONFIG", help="the configuration, with key blocks")
+    keys = made.add_mutually_exclusive_group()
+    keys.add_argument("--component", metavar="FILE", action="append", default=[],
+                      help="a component of the local master key, for each of its holders: its"
+                      " digits, a space, its check value; else the credentials lmk.1, lmk.2 .. of"
+                      " systemd")
+    keys.add_argument("--test-keys", action="store_true",
+                      help="the configuration has keys in the clear, as that of `dukpt serve`")
+    store = made.add_mutually_exclusive_group(required=True)
+    store.add_argument("--journal", metavar="FILE", help="the journal, which new-journal makes")
+    store.add_argument("--postgres", metavar="DSN", action="append",
+                       help="the database with the book, as postgresql://USER@HOST/NAME, also more"
+                       " than once: it is where the primary is found. A password stands in the file"
+                       " that PGPASSFILE names")
+    add("--not-replicated", action="store_true",
+        help="serves over a database whose commits wait for no standby")
+    add("--groups", metavar="N", type=count, default=GROUPS,
+        help=f"how many groups are settled in the database at once; else {GROUPS}")
     add("--listen", metavar="ADDRESS", type=address, action="append", default=[],
         help=f"where clients come: HOST:PORT, also more than once; else {HERE}. The sockets that"
         " systemd hands over stand in their place")

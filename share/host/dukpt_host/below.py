@@ -2,11 +2,15 @@
 from __future__ import annotations
 
 import asyncio
+import fcntl
+import os
 import socket
+from contextlib import contextmanager
 from dataclasses import dataclass
 from pathlib import Path
-from typing import Callable, Optional, Sequence
+from typing import Callable, Iterator, Optional, Sequence, Union
 
+from .deciding import Ended
 from .frames import Cutter
 
 # Room for a group in its input, whatever the system gives a socket by itself.
@@ -14,10 +18,6 @@ INPUT = 1 << 18
 # So much is kept of what it says on standard error.
 MOST_SAID = 4096
 JOURNAL_FAILED = "journal: failed"
-
-
-class Ended(Exception):
-    """That the process has ended, before all answers came."""
 
 
 @dataclass(frozen=True)
@@ -116,13 +116,33 @@ class Below(asyncio.SubprocessProtocol):
         return found
 
 
-async def start(program: str, config: str, journal: Path, on_end: Callable[[], None]) -> Below:
+async def start(program: str, config: Union[str, bytearray], journal: Path,
+                on_end: Callable[[], None]) -> Below:
     """Starts it, in a session of its own: what ends this one by its terminal leaves it alone. As in
     this process, a file that grows too large is a write that fails, and no signal."""
     mine, theirs = socket.socketpair(socket.AF_UNIX, socket.SOCK_SEQPACKET)
-    with theirs:
+    with theirs, readable(config) as (path, handles):
         mine.setsockopt(socket.SOL_SOCKET, socket.SO_SNDBUF, INPUT)
         _, below = await asyncio.get_running_loop().subprocess_exec(
-            lambda: Below(mine, on_end), program, "serve", config, "--journal", str(journal),
-            stdin=theirs.fileno(), start_new_session=True, restore_signals=False)
+            lambda: Below(mine, on_end), program, "serve", path, "--journal", str(journal),
+            stdin=theirs.fileno(), pass_fds=handles, start_new_session=True, restore_signals=False)
     return below
+
+
+@contextmanager
+def readable(config: Union[str, bytearray]) -> Iterator[tuple[str, Sequence[int]]]:
+    """The path under which a configuration is read, and the handle that it needs. A text comes by a
+    pipe with room for all of it: it is read once, and never on a disk."""
+    if isinstance(config, str):
+        yield config, ()
+        return
+    given, into = os.pipe()
+    try:
+        try:
+            fcntl.fcntl(into, fcntl.F_SETPIPE_SZ, len(config))
+            os.write(into, config)
+        finally:
+            os.close(into)
+        yield f"/dev/fd/{given}", (given,)
+    finally:
+        os.close(given)

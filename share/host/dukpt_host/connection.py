@@ -89,9 +89,9 @@ class Connection(asyncio.Protocol, Source):
         elif self.is_ending and not self.unanswered:
             self.transport.close()
 
-    def lost(self) -> None:
+    def lost(self, why: str) -> None:
         """Frames get no answer, so no later one may: the client would take it for theirs."""
-        self.end("restart")
+        self.end(why)
         self.unanswered = 0
         self.transport.close()
 

@@ -17,6 +17,8 @@ FAULTS = {
     "slow reader": "it does not read its answers",
     "idle": "nothing came for too long",
     "restart": "the service below was started again, and frames have no answer",
+    "unknown": "what came of frames is not known, and they have no answer",
+    "not serving": "the host does not serve",
 }
 
 
@@ -75,12 +77,12 @@ class Connections:
         for it in list(self.all):
             it.end(why)
 
-    def lose_all(self) -> None:
+    def lose_all(self, why: str) -> None:
         """Closes all at once, with what waits of them."""
         for it in list(self.all):
-            self.lose(it)
+            self.lose(it, why)
 
-    def lose(self, it: Connection) -> None:
+    def lose(self, it: Connection, why: str) -> None:
         """Closes one of which frames get no answer."""
         self.metrics.unanswered += self.waiting.forget(it)
-        it.lost()
+        it.lost(why)

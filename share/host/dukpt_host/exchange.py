@@ -1,4 +1,4 @@
-"""Groups of frames to the process below, and its answers back to whoever sent them."""
+"""Groups of frames to whatever decides them, and the answers back to whoever sent them."""
 from __future__ import annotations
 
 import asyncio
@@ -6,9 +6,9 @@ from itertools import chain
 from time import monotonic
 from typing import Sequence
 
-from .below import Below, Ended
 from .connection import Connection
 from .connections import Connections
+from .deciding import Decider, Ended
 from .frames import KIND, PROBE, REFUSAL, belongs, says
 from .log import Log
 from .metrics import Metrics
@@ -25,7 +25,7 @@ class Probe(Source):
     def answered(self, answers: Sequence[bytes]) -> None:
         self.tell(True)
 
-    def lost(self) -> None:
+    def lost(self, why: str) -> None:
         self.tell(False)
 
     def tell(self, how: bool) -> None:
@@ -34,57 +34,62 @@ class Probe(Source):
 
 
 class Exchange:
-    """One group is with the process below; what comes meanwhile is the next one."""
+    """Each decider has one group; what comes meanwhile is the next one. `loss` is the word for
+    the end of a connection whose frames have no answer."""
 
-    def __init__(self, waiting: Waiting, connections: Connections, metrics: Metrics,
-                 log: Log) -> None:
+    def __init__(self, waiting: Waiting, connections: Connections, metrics: Metrics, log: Log,
+                 loss: str) -> None:
         self.waiting, self.connections = waiting, connections
-        self.metrics, self.log = metrics, log
-        self.group: list[Part] = []
+        self.metrics, self.log, self.loss = metrics, log, loss
+        self.groups: dict[Decider, list[Part]] = {}
         self.is_stopping = False
         metrics.waiting = self.frames_without_answer
 
-    async def serve(self, below: Below) -> None:
-        """Until the process ends, or until this stops and all that was read is answered."""
-        try:
-            while await self.has_group(below):
-                answers = await below.take()
-                if not self.all_belong(answers):
-                    self.log.line("an answer is not that to its frame: the service below is killed")
-                    below.kill()
-                    raise Ended
-                done, self.group = self.group, []
-                # The process works on the next group while these answers go out.
-                if not below.has_ended:
-                    self.give(below)
-                self.hand_out(done, answers)
-        except Ended:
-            self.lose_group()
+    def stop(self) -> None:
+        """Decides what was read, and nothing behind that."""
+        self.is_stopping = True
+        self.waiting.stirred.set()
 
-    async def has_group(self, below: Below) -> bool:
-        """Waits until the process has a group. There is none where it has ended, or this stops."""
-        while not self.group:
-            if below.has_ended:
+    async def serve(self, decider: Decider) -> None:
+        """Until a decider ends, or until this stops and nothing is left for it."""
+        try:
+            while await self.has_group(decider):
+                answers = await decider.take()
+                group = self.groups[decider]
+                if not all_belong(group, answers):
+                    self.log.line("an answer is not that to its frame: what gave it is ended")
+                    decider.kill()
+                    raise Ended
+                del self.groups[decider]
+                self.waiting.done(group)
+                # It works on the next group while these answers go out.
+                if not decider.has_ended:
+                    self.give(decider)
+                self.hand_out(group, answers)
+        except Ended:
+            self.lose_group(decider)
+
+    async def has_group(self, decider: Decider) -> bool:
+        """Waits until it has a group. There is none where it has ended, or this stops."""
+        while decider not in self.groups:
+            if decider.has_ended:
                 return False
-            self.give(below)
-            if not self.group:
+            self.give(decider)
+            if decider not in self.groups:
                 if self.is_stopping:
                     return False
                 await self.waiting.stirred.wait()
         return True
 
-    def give(self, below: Below) -> None:
+    def give(self, decider: Decider) -> None:
         self.waiting.stirred.clear()
-        self.group = self.waiting.group()
-        if self.group:
-            below.give([*chain.from_iterable(part.frames for part in self.group)])
-            count = frames_of_connections(self.group)
+        group = self.waiting.group()
+        if group:
+            self.groups[decider] = group
+            decider.give(frames_of(group))
+            count = frames_of_connections(group)
             if count:
                 self.metrics.groups.add(count)
-
-    def all_belong(self, answers: Sequence[bytes]) -> bool:
-        frames = [*chain.from_iterable(part.frames for part in self.group)]
-        return len(frames) == len(answers) and all(map(belongs, frames, answers))
 
     def hand_out(self, group: Sequence[Part], answers: Sequence[bytes]) -> None:
         now, first = monotonic(), 0
@@ -102,37 +107,47 @@ class Exchange:
             if it[KIND] == REFUSAL:
                 self.log.refused(source.peer, it)
 
-    def lose_group(self) -> None:
+    def lose_group(self, decider: Decider) -> None:
         """The frames of the group get no answer: their connections end."""
-        group, self.group = self.group, []
+        group = self.groups.pop(decider, [])
+        self.waiting.done(group)
         self.metrics.unanswered += frames_of_connections(group)
-        for source in {part.source for part in group}:
-            if isinstance(source, Connection):
-                self.connections.lose(source)
-            else:
-                source.lost()
+        self.lose({part.source for part in group})
 
     def lose_all(self) -> None:
         """No frame that waits gets an answer."""
-        for source in list(self.waiting.turns):
+        self.lose(set(self.waiting.turns))
+
+    def lose(self, sources: set[Source]) -> None:
+        for source in sources:
             if isinstance(source, Connection):
-                self.connections.lose(source)
+                self.connections.lose(source, self.loss)
             else:
                 self.waiting.forget(source)
-                source.lost()
+                source.lost(self.loss)
 
     def frames_without_answer(self) -> int:
-        waits = chain.from_iterable(it.parts for it in self.waiting.turns)
-        return frames_of_connections([*self.group, *waits])
+        groups = [*chain.from_iterable(self.groups.values())]
+        sources = {part.source for part in groups} | set(self.waiting.turns)
+        return frames_of_connections([*groups, *chain.from_iterable(it.parts for it in sources)])
 
     async def probe(self, seconds: float) -> bool:
-        """Whether the process below answers within so many seconds."""
+        """Whether frames are decided within so many seconds."""
         probe = Probe()
         self.waiting.add(probe, [PROBE], monotonic())
         try:
             return await asyncio.wait_for(probe.has_answer, seconds)
         except asyncio.TimeoutError:
             return False
+
+
+def frames_of(group: Sequence[Part]) -> list[bytes]:
+    return [*chain.from_iterable(part.frames for part in group)]
+
+
+def all_belong(group: Sequence[Part], answers: Sequence[bytes]) -> bool:
+    frames = frames_of(group)
+    return len(frames) == len(answers) and all(map(belongs, frames, answers))
 
 
 def frames_of_connections(parts: Sequence[Part]) -> int:

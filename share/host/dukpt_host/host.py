@@ -5,16 +5,15 @@ import asyncio
 import signal
 import socket
 from time import monotonic
-from typing import Optional
+from typing import Optional, Union
 
 from .connections import Connections
 from .exchange import Exchange
-from .journal import State, room_of
 from .listening import Door, context_of, listeners, name_of, notify, watchdog
 from .log import Log
 from .metrics import Metrics
-from .service import Service
-from .settings import Settings
+from .serving import Serving
+from .settings import Journal, Settings
 from .waiting import Waiting
 from .web import LONGEST, Web
 
@@ -23,23 +22,22 @@ TICK = 0.25
 
 
 class Host:
-    """The parts of a host. Its sockets are open once it is made. It lets in whom it can answer."""
+    """The parts of a host. Its sockets are open once it is made. It lets in whom it can answer.
+    `mark` stands before all that its health says."""
 
     def __init__(self, settings: Settings, log: Log) -> None:
         self.settings, self.log = settings, log
-        self.state = State(settings.journal)
+        self.mark = "test keys: " if settings.has_test_keys else ""
+        self.metrics = Metrics()
+        self.connections = Connections(settings.limits, Waiting(), self.metrics, log)
+        self.service = service_of(settings, self.connections, self.metrics, log)
+        self.metrics.of_service = self.service.collect
         context = context_of(settings.tls)
         self.sockets = listeners(settings)
-        self.metrics = Metrics(lambda: room_of(settings.journal))
-        waiting = Waiting()
-        self.connections = Connections(settings.limits, waiting, self.metrics, log)
-        exchange = Exchange(waiting, self.connections, self.metrics, log)
-        self.service = Service(settings, self.state, exchange, self.metrics, log)
-        self.door = Door(lambda: not self.service.has_failed, context, self.connections,
-                         self.metrics, log)
+        self.door = Door(lambda: self.service.is_open, context, self.connections, self.metrics, log)
 
     async def run(self) -> int:
-        """Serves until a signal asks for the end. The status is 1 where the journal has failed."""
+        """Serves until a signal asks for the end."""
         for way in (signal.SIGTERM, signal.SIGINT, signal.SIGHUP):
             asyncio.get_running_loop().add_signal_handler(way, self.service.stop)
         web = await self.open_web()
@@ -62,7 +60,7 @@ class Host:
             beats.cancel()
             if web:
                 web.close()
-        return 1 if self.service.has_failed else 0
+        return self.service.status
 
     async def let_in(self, listener: socket.socket) -> None:
         await self.service.settled.wait()
@@ -73,7 +71,7 @@ class Host:
         if self.settings.metrics is None:
             return None
         host, port = self.settings.metrics
-        talk = Web(self.metrics, self.service).talk
+        talk = Web(self.metrics, self.service, self.mark).talk
         server = await asyncio.start_server(talk, host, port, limit=LONGEST)
         for it in server.sockets:
             self.log.note(f"metrics and health on {name_of(it.getsockname())}")
@@ -87,7 +85,7 @@ class Host:
         while True:
             self.connections.look()
             self.log.look()
-            status = self.service.wrong or "serving"
+            status = self.mark + (self.service.wrong or self.service.right)
             if status != told:
                 told = status
                 notify(f"STATUS={status}")
@@ -104,3 +102,26 @@ class Host:
         for it in list(self.connections.all):
             it.transport.abort()
         await asyncio.sleep(0)
+
+
+def service_of(settings: Settings, connections: Connections, metrics: Metrics,
+               log: Log) -> Serving:
+    """The service over a journal or a database. Only the second one needs the libraries for it; and
+    test keys over a journal need none."""
+    store, waiting = settings.store, connections.waiting
+    if isinstance(store, Journal):
+        from .service import Service
+        exchange = Exchange(waiting, connections, metrics, log, "restart")
+        return Service(configuration_below(settings), store, exchange, metrics, log)
+    from .book.service import BookService
+    from .keys import module_of
+    exchange = Exchange(waiting, connections, metrics, log, "unknown")
+    return BookService(store, module_of(settings), exchange, metrics, log)
+
+
+def configuration_below(settings: Settings) -> Union[str, bytearray]:
+    """The path of the configuration of the process below, or its text."""
+    if settings.has_test_keys:
+        return settings.config
+    from .keys import clear_text
+    return clear_text(settings)

@@ -34,7 +34,7 @@ class Held(Enum):
 
 
 class State:
-    """The file JOURNAL.state, as `dukpt-serve` keeps it: the id of this boot while a service runs,
+    """The file JOURNAL.state: the id of this boot while a service runs,
     `failed` behind it after `journal: failed`, and nothing after any other end of its own. It is
     locked: no second service is started over the journal."""
 
@@ -74,7 +74,8 @@ def sync_folder(path: Path) -> None:
 
 async def put_copy(program: str, journal: Path) -> None:
     """Puts a checked copy in the place of a journal. What a failed sync kept from the disk is still
-    read, and goes to the disk with the copy: docs/DEPLOYMENT.md, "When the log has failed"."""
+    read, and goes to the disk with the copy: docs/DEPLOYMENT.md, "When the journal or the
+    log has failed"."""
     copy = Path(f"{journal}.recovered")
     copy.unlink(missing_ok=True)
     left = PATIENCE

@@ -4,12 +4,13 @@ from __future__ import annotations
 import asyncio
 from typing import Optional, Sequence
 
+from . import configuration
 from .arguments import read
 from .host import Host
 from .journal import Refused
 from .listening import NotOpened
 from .log import Log
-from .service import NotStarted
+from .serving import NotStarted
 from .settings import Settings
 
 
@@ -19,8 +20,10 @@ async def host(settings: Settings, log: Log) -> int:
 
 def main(words: Optional[Sequence[str]] = None) -> int:
     settings, log = read(words), Log()
+    if settings.has_test_keys:
+        log.line("test keys: the configuration has every key in the clear")
     try:
         return asyncio.run(host(settings, log))
-    except (NotOpened, NotStarted, Refused, OSError) as why:
+    except (NotOpened, NotStarted, Refused, configuration.Refused, ImportError, OSError) as why:
         log.line(f"not started: {why}")
         return 1

@@ -3,7 +3,7 @@ from __future__ import annotations
 
 from bisect import bisect_left
 from collections import Counter
-from typing import Callable, Iterator, Mapping, Sequence
+from typing import Callable, Iterable, Iterator, Mapping, Sequence
 
 from prometheus_client import CollectorRegistry, generate_latest
 from prometheus_client.core import CounterMetricFamily, GaugeMetricFamily, HistogramMetricFamily
@@ -11,7 +11,6 @@ from prometheus_client.metrics_core import Metric
 from prometheus_client.registry import Collector
 
 from .frames import words
-from .journal import Room
 
 SECONDS = (.0005, .001, .002, .005, .01, .02, .05, .1, .2, .5, 1, 2, 5, 10)
 FRAMES = (1, 2, 5, 10, 20, 50, 100, 200, 500, 1024)
@@ -42,8 +41,9 @@ class Histogram:
 class Metrics(Collector):
     """All counts. `frames` are answered, unanswered, or wait still."""
 
-    def __init__(self, room: Callable[[], Room]) -> None:
-        self.room = room
+    def __init__(self) -> None:
+        # What the service counts of itself.
+        self.of_service: Callable[[], Iterable[Metric]] = lambda: ()
         self.answers: Counter[bytes] = Counter()
         self.frames = self.unanswered = self.dropped = self.opened = 0
         self.connections: Callable[[], int] = lambda: 0
@@ -51,7 +51,6 @@ class Metrics(Collector):
         self.is_serving = False
         self.closed: Counter[str] = Counter()
         self.refused: Counter[str] = Counter()
-        self.restarts: Counter[str] = Counter()
         self.seconds, self.groups = Histogram(SECONDS), Histogram(FRAMES)
         self.registry = CollectorRegistry()
         self.registry.register(self)
@@ -71,13 +70,13 @@ class Metrics(Collector):
             yield CounterMetricFamily(name, text, value=value)
         yield by_word("dukpt_connections_closed", "Connections that ended, by why.", self.closed)
         yield by_word("dukpt_connections_refused", "Clients not let in, by why.", self.refused)
-        yield by_word("dukpt_restarts", "Starts of the service after its end.", self.restarts)
         for name, text, level in self.levels():
             yield GaugeMetricFamily(name, text, value=level)
+        yield from self.of_service()
 
     def totals(self) -> Iterator[tuple[str, str, int]]:
         yield "dukpt_frames", "Frames that came.", self.frames
-        yield "dukpt_frames_unanswered", "Frames lost in a stop of the service.", self.unanswered
+        yield "dukpt_frames_unanswered", "Frames that have no answer.", self.unanswered
         yield "dukpt_answers_dropped", "Answers whose connection had ended.", self.dropped
         yield "dukpt_connections_opened", "Connections that came.", self.opened
 
@@ -85,10 +84,6 @@ class Metrics(Collector):
         yield "dukpt_serving", "1 while the service answers.", int(self.is_serving)
         yield "dukpt_connections", "Connections now.", self.connections()
         yield "dukpt_frames_waiting", "Frames without an answer now.", self.waiting()
-        room = self.room()
-        yield "dukpt_journal_records", "Records of the journal.", room.records
-        yield "dukpt_journal_room", "Records left.", room.left
-        yield "dukpt_journal_room_payments", "Payments that can still be kept.", room.payments
 
 
 def by_word(name: str, text: str, counts: Mapping[str, int]) -> Metric:

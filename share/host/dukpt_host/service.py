@@ -2,54 +2,69 @@
 from __future__ import annotations
 
 import asyncio
+from collections import Counter
 from time import monotonic
-from typing import Optional
+from typing import Iterator, Union
 
-from .below import Below, Ended, End, start
+from prometheus_client.core import GaugeMetricFamily
+from prometheus_client.metrics_core import Metric
+
+from .below import Below, End, start
+from .deciding import Ended
 from .exchange import Exchange
 from .frames import PROBE
 from .journal import Held, Refused, State, put_copy, room_of
 from .log import Log
-from .metrics import Metrics
-from .settings import Settings
+from .metrics import Metrics, by_word
+from .serving import NotStarted
+from .settings import Journal
 
 # Seconds before a start where the one before answered nothing: the first, and the most.
 FIRST_DELAY, MOST_DELAY = 0.1, 10.0
 STARTS = "the service below is being started"
 
 
-class NotStarted(Exception):
-    """Why the process below ended by itself before it answered once."""
-
-
 class Service:
-    """`wrong` says why there are no answers, and is empty while there are. Where only a human can
-    help, `has_failed` is set: nobody is let in any more, and nothing is started again."""
+    """Where only a human can help, `has_failed` is set: nobody is let in any more, and nothing is
+    started again."""
 
-    def __init__(self, settings: Settings, state: State, exchange: Exchange, metrics: Metrics,
-                 log: Log) -> None:
-        self.settings, self.state, self.exchange = settings, state, exchange
-        self.metrics, self.log = metrics, log
+    right = "serving"
+    silent = "the service below gives no answer"
+
+    def __init__(self, config: Union[str, bytearray], journal: Journal, exchange: Exchange,
+                 metrics: Metrics, log: Log) -> None:
+        # The path of its configuration, or the text of one that stands in no file.
+        self.config, self.program, self.journal = config, journal.program, journal.path
+        self.exchange, self.metrics, self.log = exchange, metrics, log
+        self.state = State(self.journal)
         self.wrong = STARTS
         self.has_failed = False
+        self.restarts: Counter[str] = Counter()
         # Set once it is known how the first start went; and when this is to stop.
         self.settled, self.stopping = asyncio.Event(), asyncio.Event()
-        self.below: Optional[Below] = None
+
+    @property
+    def is_open(self) -> bool:
+        return not self.has_failed
+
+    @property
+    def status(self) -> int:
+        """1 where the journal has failed."""
+        return 1 if self.has_failed else 0
 
     def stop(self) -> None:
-        """Answers what was read, and then ends."""
         self.stopping.set()
-        self.exchange.is_stopping = True
-        self.exchange.waiting.stirred.set()
+        self.exchange.stop()
 
     async def run(self) -> None:
-        """Until it is told to stop."""
         try:
             await self.serve_on()
         except Refused as why:
             self.fail(str(why))
             await self.stopping.wait()
         self.exchange.lose_all()
+        if isinstance(self.config, bytearray):
+            self.config[:] = bytes(len(self.config))
 
     async def serve_on(self) -> None:
         """Starts the process, again where it ended and nothing was lost, until this is to stop."""
@@ -66,14 +81,14 @@ class Service:
             if not is_up and not end.is_killed:
                 raise NotStarted(str(end))
             failures = 0 if has_answered else failures + 1
-            self.metrics.restarts["killed" if end.is_killed else "ended"] += 1
+            self.restarts["killed" if end.is_killed else "ended"] += 1
             await self.pause(failures)
 
     async def recover(self) -> None:
         """Goes on over a checked copy of the journal, behind a service that was not seen to end."""
         began = monotonic()
         self.wrong = "the journal is being copied, since a sync may have failed unseen"
-        await put_copy(self.settings.program, self.settings.journal)
+        await put_copy(self.program, self.journal)
         self.state.keep(Held.NOTHING)
         self.log.note(f"the journal was copied and checked in {monotonic() - began:.2f} s")
 
@@ -82,11 +97,11 @@ class Service:
         began = monotonic()
         self.wrong = self.wrong or STARTS
         self.state.keep(Held.RUNNING)
-        below = await start(self.settings.program, self.settings.config, self.settings.journal,
+        below = await start(self.program, self.config, self.journal,
                             self.exchange.waiting.stirred.set)
         has_answered = await answers(below)
         if has_answered:
-            room = room_of(self.settings.journal)
+            room = room_of(self.journal)
             self.log.note(f"serving after {monotonic() - began:.2f} s, with room for {room.left} of"
                           f" {room.records} records")
             self.wrong, self.metrics.is_serving = "", True
@@ -124,8 +139,17 @@ class Service:
         self.wrong, self.has_failed = why, True
         self.log.line(f"nothing is served until somebody sees to it: {why}")
         self.exchange.lose_all()
-        self.exchange.connections.lose_all()
+        self.exchange.connections.lose_all("restart")
         self.settled.set()
+
+    def collect(self) -> Iterator[Metric]:
+        yield by_word("dukpt_restarts", "Starts of the service after its end.", self.restarts)
+        room = room_of(self.journal)
+        for name, text, level in (
+                ("dukpt_journal_records", "Records of the journal.", room.records),
+                ("dukpt_journal_room", "Records left.", room.left),
+                ("dukpt_journal_room_payments", "Payments that can still be kept.", room.payments)):
+            yield GaugeMetricFamily(name, text, value=level)
 
 
 async def answers(below: Below) -> bool:

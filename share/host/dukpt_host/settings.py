@@ -3,7 +3,7 @@ from __future__ import annotations
 
 from dataclasses import dataclass
 from pathlib import Path
-from typing import Optional, Sequence
+from typing import Optional, Sequence, Union
 
 from .connections import Limits
 
@@ -21,10 +21,31 @@ class Tls:
 
 
 @dataclass(frozen=True)
-class Settings:
+class Journal:
+    """A journal, and the program that serves over it."""
+
     program: str
+    path: Path
+
+
+@dataclass(frozen=True)
+class Database:
+    """Where the database may be, whether it has to be replicated, and how many groups are settled
+    in it at once."""
+
+    places: Sequence[str]
+    is_replicated: bool
+    groups: int
+
+
+@dataclass(frozen=True)
+class Settings:
     config: str
-    journal: Path
+    # The files of the components of the local master key; without any, systemd has them.
+    components: Sequence[str]
+    # Whether the configuration has its keys in the clear.
+    has_test_keys: bool
+    store: Union[Journal, Database]
     listen: Sequence[Address]
     tls: Optional[Tls]
     # Whether an address that other machines reach may be without TLS.

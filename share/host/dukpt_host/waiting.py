@@ -1,4 +1,4 @@
-"""The frames that wait for the process below, and the groups in which they go to it."""
+"""The frames that wait, and the groups in which they are decided."""
 from __future__ import annotations
 
 import asyncio
@@ -6,8 +6,8 @@ from collections import deque
 from dataclasses import dataclass, field
 from typing import Sequence
 
-# Frames that one read of the process below ends are kept by the same syncs: so many at most, of
-# which the longest fill its read of 65,536 bytes.
+# So many frames are decided at once, and kept by the same syncs. The longest ones fill a read of
+# the process below, which has 65,536 bytes.
 GROUP = 1024
 # So many frames of one source go into a group before another source has its turn.
 TURN = 64
@@ -27,17 +27,19 @@ class Part:
 
 class Source:
     """Where frames come from, and their answers go to, in the order of the frames. `size` is how
-    many bytes of it wait."""
+    many bytes of it wait. While some of its frames are being decided no others of it are: they are
+    decided behind those, and answered behind those."""
 
     def __init__(self) -> None:
         self.parts: deque[Part] = deque()
         self.size = 0
+        self.is_under_way = False
 
     def answered(self, answers: Sequence[bytes]) -> None:
         """Takes the answers to the next frames."""
         raise NotImplementedError
 
-    def lost(self) -> None:
+    def lost(self, why: str) -> None:
         """Frames of it get no answer. It is asked no more."""
         raise NotImplementedError
 
@@ -64,7 +66,7 @@ class Waiting:
 
     def add(self, source: Source, frames: list[bytes], came: float) -> None:
         """Has frames wait, behind those of the same source."""
-        if not source.parts:
+        if not source.parts and not source.is_under_way:
             self.turns.append(source)
         source.parts.append(Part(source, frames, came))
         size = sum(map(len, frames))
@@ -77,7 +79,8 @@ class Waiting:
         self.stirred.set()
 
     def group(self) -> list[Part]:
-        """Takes the frames of the next group: none where none wait."""
+        """Takes the frames of the next group: none where none wait. Its sources have no further
+        turn until it is done."""
         group, room = [], GROUP
         while self.turns and room:
             source = self.turns.popleft()
@@ -86,9 +89,21 @@ class Waiting:
             group.append(part)
             if source.parts:
                 self.turns.append(source)
+        for part in group:
+            part.source.is_under_way = True
+        self.turns = deque(it for it in self.turns if not it.is_under_way)
         if self.paused:
             self.let_read()
         return group
+
+    def done(self, group: Sequence[Part]) -> None:
+        """Gives the sources of a group a turn again."""
+        for source in {part.source: None for part in group}:
+            source.is_under_way = False
+            if source.parts:
+                self.turns.append(source)
+        if self.turns:
+            self.stirred.set()
 
     def take(self, source: Source, most: int) -> Part:
         """Takes so many frames at most of those of a source that came first."""
@@ -117,7 +132,7 @@ class Waiting:
 
     def forget(self, source: Source) -> int:
         """Drops the frames of a source, and answers how many."""
-        if source.parts:
+        if source.parts and not source.is_under_way:
             self.turns.remove(source)
         self.paused.discard(source)
         count = sum(len(it.frames) for it in source.parts)

@@ -4,17 +4,17 @@ from __future__ import annotations
 import asyncio
 
 from .metrics import Metrics
-from .service import Service
+from .serving import Serving
 
-# Seconds for a request to come, and for the process below to answer a probe.
+# Seconds for a request to come, and for a probe to be answered.
 REQUEST, PROBE = 5.0, 2.0
 LONGEST = 8192
 TEXT = "text/plain; version=0.0.4; charset=utf-8"
 
 
 class Web:
-    def __init__(self, metrics: Metrics, service: Service) -> None:
-        self.metrics, self.service = metrics, service
+    def __init__(self, metrics: Metrics, service: Serving, mark: str) -> None:
+        self.metrics, self.service, self.mark = metrics, service, mark
 
     async def talk(self, reader: asyncio.StreamReader, writer: asyncio.StreamWriter) -> None:
         """Answers one request, and closes."""
@@ -37,13 +37,13 @@ class Web:
         if path == b"/health":
             wrong = await self.wrong()
             status = "503 Service Unavailable" if wrong else "200 OK"
-            return status, f"{wrong or 'serving'}\n".encode()
+            return status, f"{self.mark}{wrong or self.service.right}\n".encode()
         return "404 Not Found", b"/metrics or /health\n"
 
     async def wrong(self) -> str:
-        """What is wrong: nothing only where the process below answers now."""
+        """What is wrong: nothing only where frames are answered now."""
         if not self.service.wrong and not await self.service.exchange.probe(PROBE):
-            return self.service.wrong or f"the service below gives no answer within {PROBE:g} s"
+            return self.service.wrong or f"{self.service.silent} within {PROBE:g} s"
         return self.service.wrong
 
 

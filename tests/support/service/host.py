@@ -14,12 +14,15 @@ import urllib.request
 from pathlib import Path
 from typing import Callable, Iterator, Optional, Sequence
 
-from ..program import ROOT, Program
+from ..program import ROOT
 from .client import split
 from .journal_case import JournalCase
 
 HOST = ROOT / "share/host/dukpt-host"
 HERE = "127.0.0.1:0"
+ON_JOURNAL = ("--journal", "journal")
+# The keys of `bank.toml` are in the clear.
+TEST_KEYS = ("bank.toml", "--test-keys")
 SECONDS = 60
 PIECE = 1 << 16
 SAMPLE = re.compile(r"^(\w+)(?:\{(.*)\})? (\S+)$", re.M)
@@ -28,15 +31,14 @@ SAMPLE = re.compile(r"^(\w+)(?:\{(.*)\})? (\S+)$", re.M)
 class Running:
     """A host that was started in a folder. Its lines are read as they come."""
 
-    def __init__(self, program: Program, home: Path, *words: str,
+    def __init__(self, home: Path, keys: Sequence[str], store: Sequence[str], *words: str,
                  environment: Optional[dict[str, str]] = None,
                  prepare: Optional[Callable[[], None]] = None, behind: Sequence[str] = ()) -> None:
         self.lines: list[str] = []
         self.process = subprocess.Popen(
-            [*behind, HOST, "bank.toml", "--journal", "journal", "--listen", HERE, "--metrics", HERE,
-             *words], cwd=home, stdin=subprocess.DEVNULL, stderr=subprocess.PIPE, text=True,
-            preexec_fn=prepare,
-            env={**os.environ, "DUKPT": str(program.path), **(environment or {})})
+            [*behind, HOST, *keys, *store, "--listen", HERE, "--metrics", HERE, *words],
+            cwd=home, stdin=subprocess.DEVNULL, stderr=subprocess.PIPE, text=True,
+            preexec_fn=prepare, env={**os.environ, **(environment or {})})
         self.reader = threading.Thread(target=self.read_lines, daemon=True)
         self.reader.start()
 
@@ -201,8 +203,12 @@ class Client:
 class HostCase(JournalCase):
     """A test of a host over the file `journal`."""
 
-    def start_host(self, *words: str, **how: object) -> Running:
-        host = Running(self.program, self.home, *words, **how)
+    def start_host(
+        self, *words: str, keys: Sequence[str] = TEST_KEYS,
+        environment: Optional[dict[str, str]] = None, **how: object
+    ) -> Running:
+        named = {"DUKPT": str(self.program.path), **(environment or {})}
+        host = Running(self.home, keys, ON_JOURNAL, *words, environment=named, **how)
         self.addCleanup(host.release)
         return host
 

@@ -1,0 +1,70 @@
+"""The statement that settles a group in PostgreSQL: over random groups it says and keeps what the model
+of the book does, one by one and over several connections at once; and differences that are planted in it
+are found. `tools/test -k book_statement --times 50` compares 100,000 groups one by one."""
+from __future__ import annotations
+
+import os
+import subprocess
+from typing import Optional
+
+from ..support.book.cluster import Cluster, folder_for
+from ..support.book.groups import MACS, number_of
+from ..support.book.hosts import library
+from ..support.book.plants import LANES, PLANTS, SCANS, with_plant
+from ..support.case import Case
+from ..support.program import ROOT
+
+# Debian's, which has asyncpg: the host is run by it too.
+PYTHON = "/usr/bin/python3"
+ONE_BY_ONE, AT_ONCE = 2000, 800
+# In so many groups a planted difference is found.
+ENOUGH = 600
+
+
+class Statement(Case):
+    weight = 30
+
+    def setUp(self) -> None:
+        super().setUp()
+        self.cluster = Cluster(folder_for(self), "primary", 5432)
+        self.addCleanup(self.cluster.release)
+        self.cluster.make()
+
+    def difference(self, groups: int, lanes: int) -> Optional[str]:
+        """The first difference in so many groups over so many connections."""
+        done = subprocess.run(
+            [PYTHON, "-B", "-m", "tests.support.book.compare", self.cluster.dsn,
+             str(self.chance.getrandbits(32)), str(groups), str(lanes)],
+            cwd=ROOT, capture_output=True, text=True, check=False,
+            env={**os.environ, **library()})
+        self.assertEqual(done.stderr, "")
+        self.assertEqual(done.returncode, 1 if done.stdout else 0)
+        return done.stdout or None
+
+    def test_against_the_model(self) -> None:
+        self.assertIsNone(self.difference(ONE_BY_ONE * self.times, 1))
+        self.assertIsNone(self.difference(AT_ONCE * self.times, LANES))
+
+    def test_plans(self) -> None:
+        """Plans that are made over an empty book look each number up in the index."""
+        self.assertEqual(self.scans(), "0")
+        self.cluster.sql(with_plant(SCANS))
+        self.assertNotEqual(self.scans(), "0")
+
+    def scans(self) -> str:
+        """How often a payment and a reversal have the whole table read."""
+        paid, own, other = (f"'\\x{number_of(1, it).hex()}'::bytea" for it in (1, 2, 3))
+        mac = f"'\\x{MACS[0].hex()}'::bytea"
+        return self.cluster.sql(
+            "begin", f"select dukpt.settle('{{1,2}}', array[{paid}, {own}], array[{mac}, {mac}], "
+            f"'{{5,null}}', '{{0,null}}', array[null, {other}])",
+            "select seq_scan from pg_stat_xact_user_tables where relid = 'dukpt.number'::regclass",
+            "rollback").splitlines()[-1]
+
+    def test_planted(self) -> None:
+        """Each of these differences is found."""
+        for plant in PLANTS:
+            self.cluster.sql(with_plant(plant))
+            self.assertIsNotNone(self.difference(ENOUGH * plant.lanes, plant.lanes), plant.name)
+        self.cluster.sql(with_plant())
+        self.assertIsNone(self.difference(ENOUGH, 1))

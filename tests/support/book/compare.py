@@ -1,0 +1,119 @@
+"""Compares the statement of the book with the model, over random groups: what each is answered, and what
+the table keeps. It is a program of its own, which Debian's Python runs, as it runs the host:
+
+    python3 -m tests.support.book.compare DSN SEED GROUPS LANES
+
+With one lane each group comes behind the one before. With more, groups come at once, over so many
+connections, and the clock of the server tells in which order they were settled: it is read while the
+terminals of a group are held. It ends with status 1 and a line at the first difference.
+"""
+from __future__ import annotations
+
+import asyncio
+import random
+import sys
+from collections import deque
+from typing import Any, Optional, Sequence
+
+import asyncpg
+
+from ..models.model_book import Asked, Book
+from ..program import ROOT
+from .groups import COUNTER_BITS, World, number_of, worlds
+
+sys.path.insert(0, str(ROOT / "share/host"))
+from dukpt import Payment, Reversal, Settled, Settlement  # noqa: E402
+from dukpt_host.book import settling  # noqa: E402
+from dukpt_host.book.opening import SESSION  # noqa: E402
+
+ROWS = """select kind, ksn, mac, amount, code, reverses, state, reversed_by from dukpt.number
+where ksn between $1 and $2"""
+IN_ORDER = """select said, clock_timestamp() from dukpt.settle($1, $2, $3, $4, $5, $6) as said"""
+
+
+class Differs(Exception):
+    """Where statement and model differ."""
+
+
+def candidate(it: Asked) -> settling.Candidate:
+    if it.reversed is None:
+        return Payment(it.number, it.amount, b"%02d" % it.code, it.mac)
+    return Reversal(it.number, it.reversed, it.mac)
+
+
+def said(it: Settled) -> Optional[int]:
+    if it.settlement is Settlement.USED:
+        return None
+    return int(it.candidate.code) if isinstance(it.candidate, Payment) else it.state
+
+
+async def compare_kept(connection: Any, world: World, book: Book) -> None:
+    found = set()
+    for it in world.terminals:
+        rows = await connection.fetch(ROWS, number_of(it, 0), number_of(it, (1 << COUNTER_BITS) - 1))
+        found |= set(map(tuple, rows))
+    if found != book.rows():
+        raise Differs(f"kept: {sorted(map(str, found ^ book.rows()))[0]}")
+
+
+def compare_group(group: Sequence[Asked], found: Sequence[Optional[int]], book: Book) -> None:
+    wanted = book.settle(group)
+    if list(found) != wanted:
+        at = next(at for at, (one, other) in enumerate(zip(found, wanted)) if one != other)
+        raise Differs(f"frame {at} of {[(it.number[-1], it.reversed) for it in group]}: {found[at]},"
+                      f" and not {wanted[at]}")
+
+
+async def one_by_one(connection: Any, world: World) -> None:
+    book = Book()
+    for group in world.groups:
+        found = await settling.settle(connection, list(map(candidate, group)), False)
+        compare_group(group, list(map(said, found)), book)
+    await compare_kept(connection, world, book)
+
+
+async def at_once(connections: Sequence[Any], world: World) -> None:
+    left, done = deque(world.groups), []
+
+    async def lane(connection: Any) -> None:
+        while left:
+            group = left.popleft()
+            columns = settling.columns_of(list(map(candidate, group)))
+            found, when = await connection.fetchrow(IN_ORDER, *columns)
+            done.append((when, group, found))
+
+    await asyncio.gather(*map(lane, connections))
+    book = Book()
+    for _, group, found in sorted(done, key=lambda it: it[0]):
+        compare_group(group, found, book)
+    await compare_kept(connections[0], world, book)
+
+
+async def compare(dsn: str, seed: str, groups: int, lanes: int) -> None:
+    chance = random.Random(seed)
+    connections = [await asyncpg.connect(dsn, server_settings=SESSION) for _ in range(lanes)]
+    for it in connections:
+        await it.execute("set synchronous_commit = off")
+    try:
+        for world in worlds(chance, groups):
+            if lanes == 1:
+                await one_by_one(connections[0], world)
+            else:
+                await at_once(connections, world)
+    finally:
+        for it in connections:
+            it.terminate()
+
+
+def main(words: Sequence[str]) -> int:
+    dsn, seed, groups, lanes = words
+    try:
+        asyncio.run(compare(dsn, seed, int(groups), int(lanes)))
+    except (Differs, asyncpg.PostgresError) as why:
+        print(f"{type(why).__name__}: {why}")
+        return 1
+    return 0
+
+
+if __name__ == "__main__":
+    sys.exit(main(sys.argv[1:]))

@@ -1,0 +1,62 @@
+"""Differences that are planted in the statement of the book, in order that they are found."""
+from __future__ import annotations
+
+from typing import NamedTuple, Optional
+
+from .cluster import SCHEMA
+
+LANES = 4
+
+
+class Plant(NamedTuple):
+    """A text of the schema and another one in its place, and over how many connections that shows."""
+
+    name: str
+    old: str
+    new: str
+    lanes: int = 1
+
+
+LOCKS = Plant("terminals that are there are not taken",
+              "on conflict (iksn) do update set iksn = excluded.iksn where false",
+              "on conflict (iksn) do nothing", LANES)
+SCANS = Plant("plans read the whole table", """set enable_seqscan = off set enable_hashjoin = off
+set enable_mergejoin = off""", "")
+PLANTS = (
+    Plant("of equal numbers the last is kept", """place)
+        order by ksn, place) as first
+    where kind = 1""", """place)
+        order by ksn, place desc) as first
+    where kind = 1"""),
+    Plant("of equal reversals the last is kept", """order by ksn, place) as first
+            where kind = 2""", """order by ksn, place desc) as first
+            where kind = 2"""),
+    Plant("answers in another order", ") order by given.place)", ") order by given.ksn)"),
+    Plant("a payment that was reversed is known again", "entry.reversed_by is null and not exists",
+          "not exists"),
+    Plant("a reversal of the group is not seen by a repeat", "earlier.place < given.place", "false"),
+    Plant("a repeat before its reversal is refused", "earlier.place < given.place", "true"),
+    Plant("a reversal of the group is not seen by a late payment", "earlier.place < first.place",
+          "false"),
+    Plant("a payment before its reversal is not kept", "earlier.place < first.place", "true"),
+    Plant("a reversal of a used number counts", "if it.ksn <> all (undone) then", "if true then"),
+    Plant("another MAC is known again", "and entry.mac = given.mac", ""),
+    Plant("a reversal of another number is known again",
+          "and entry.reverses is not distinct from given.reverses", ""),
+    Plant("a declined payment is undone", "and paid.kind = 1 and paid.code = 0", "and paid.kind = 1"),
+    Plant("the last reversal of a number is told", "where reversed.reversed_by is null", ""),
+    Plant("a kept number is not marked as reversed", "where reversed.reversed_by is null",
+          "where false"),
+    LOCKS,
+)
+
+
+def with_plant(plant: Optional[Plant] = None) -> str:
+    """The statement that puts the function in the place of the one that is there, with a difference."""
+    schema = SCHEMA.read_text(encoding="utf-8")
+    start = schema.index("create function dukpt.settle")
+    made = schema[start : schema.index("$$;\n", start) + 4].replace("create", "create or replace", 1)
+    if plant:
+        assert made.count(plant.old) == 1, plant.name
+        made = made.replace(plant.old, plant.new)
+    return made
