@@ -46,13 +46,6 @@ echo "sync $*: $(tr '\\n' ' ' <log.state)" >>words
 class Serving(Case):
     """The script that starts a service, here over a program that stands in for one."""
 
-    # What it serves, the words for that before its path, and the line behind which it starts none.
-    kind = "log"
-    option: tuple[str, ...] = ()
-    failed = FAILED
-    # The line of the other store, which is none of its own.
-    other = (b"journal: failed\n", 1)
-
     def setUp(self) -> None:
         super().setUp()
         self.home = self.folder()
@@ -68,7 +61,7 @@ class Serving(Case):
               given: Union[int, socket.socket] = subprocess.PIPE) -> subprocess.Popen:
         told = {"DUKPT": self.home / "stand-in", "SAYS": says, "STATUS": str(status)}
         script = subprocess.Popen(
-            [*way, SERVE, "bank.toml", *self.option, log], cwd=self.home, stdin=given,
+            [*way, SERVE, "bank.toml", log], cwd=self.home, stdin=given,
             stdout=subprocess.PIPE, stderr=subprocess.PIPE, bufsize=0, env={**os.environ, **told},
             start_new_session=True, preexec_fn=interruptible(limits.prepare()))
         self.addCleanup(end_of, script)
@@ -90,7 +83,7 @@ class Serving(Case):
         """How often the program was started, each time with the words of a service."""
         noted = self.home / "words"
         lines = noted.read_text().splitlines() if noted.exists() else []
-        self.assertEqual(lines, [f"serve bank.toml --{self.kind} {self.log}"] * len(lines))
+        self.assertEqual(lines, [f"serve bank.toml --log {self.log}"] * len(lines))
         return len(lines)
 
     def assert_refused(self, what: str, limits: Limits = NO_LIMITS,
@@ -106,14 +99,14 @@ class Serving(Case):
         given = bytes(range(256)) * 3000
         ends = [(b"", 0), (b"log: cannot open\n", 1), (b"serve: read failed\n", 1),
                 (b"out of memory\n", 1), (b"log: failed or not\n", 1), (b"no log: failed\n", 1),
-                (b"journal: failed or not\n", 1), self.other]
+                (b"journal: failed\n", 1)]
         for at, (says, status) in enumerate(ends, 1):
             self.assertEqual(self.serve(says, status, given), Ended(status, given, says))
             self.assertEqual((self.runs(), self.state.read_bytes()), (at, b""), says)
 
     def test_a_log_that_failed(self) -> None:
         """Behind it no program is started, until an operator removes the state."""
-        for at, says in enumerate((self.failed, b"another line\n" + self.failed), 1):
+        for at, says in enumerate((FAILED, b"another line\n" + FAILED), 1):
             self.assertEqual(self.serve(says, 1, b"x"), Ended(1, b"x", says))
             for _ in range(3):
                 self.assert_refused("behind a log that failed")
@@ -126,7 +119,7 @@ class Serving(Case):
 
     def test_a_failure_that_nobody_reads(self) -> None:
         """It is kept all the same, before its line is passed on."""
-        script = self.start(self.failed, 1)
+        script = self.start(FAILED, 1)
         self.demand_running(script)
         script.stderr.close()
         script.stderr = None
@@ -139,7 +132,7 @@ class Serving(Case):
         (self.home / "more").mkdir()
         (self.home / "more" / "other").symlink_to("../link")
         (self.home / "link").symlink_to("log")
-        self.assertEqual(self.serve(self.failed, 1, log="more/other"), Ended(1, b"", self.failed))
+        self.assertEqual(self.serve(FAILED, 1, log="more/other"), Ended(1, b"", FAILED))
         for name in ("log", "./log", "link", "more/other", "more/../log", str(self.log)):
             self.assert_refused(f"as {name}", log=name)
         self.assertEqual(self.state.read_text(), f"{BOOT}failed\n")
@@ -159,7 +152,7 @@ class Serving(Case):
     def test_a_service_that_a_signal_ends(self) -> None:
         """It may have been told of a failed sync, and had no time to say so."""
         for way in (signal.SIGKILL, signal.SIGSEGV, signal.SIGTERM):
-            for says, left in ((b"", BOOT), (b"a line\n", BOOT), (self.failed, f"{BOOT}failed\n")):
+            for says, left in ((b"", BOOT), (b"a line\n", BOOT), (FAILED, f"{BOOT}failed\n")):
                 self.assertEqual(self.serve(says, 128 + way, b"x"), Ended(128 + way, b"x", says))
                 self.assertEqual(self.state.read_text(), left)
                 self.assert_refused("behind a service that a signal ended")
@@ -168,7 +161,7 @@ class Serving(Case):
     def test_told_to_end(self) -> None:
         """It waits for its service, which goes on, and sees how that ends."""
         for way, tell in self.ways_to_tell():
-            for says, status, left in ((b"", 0, ""), (self.failed, 1, f"{BOOT}failed\n")):
+            for says, status, left in ((b"", 0, ""), (FAILED, 1, f"{BOOT}failed\n")):
                 script = self.start(says, status)
                 self.demand_running(script)
                 tell(script.pid, way)
@@ -180,7 +173,7 @@ class Serving(Case):
     def test_the_end_of_a_socket(self) -> None:
         """It ends the input of its service where that is a socket, so that it ends by itself."""
         for way, tell in self.ways_to_tell():
-            for says, status, left in ((b"", 0, ""), (self.failed, 1, f"{BOOT}failed\n")):
+            for says, status, left in ((b"", 0, ""), (FAILED, 1, f"{BOOT}failed\n")):
                 client, connection = socket.socketpair()
                 with client, connection:
                     script = self.start(says, status, given=connection)
@@ -243,11 +236,11 @@ class Serving(Case):
         self.make_program(tools / "sync", SYNC)
         way = ("env", f"PATH={tools}:{os.environ['PATH']}")
         boot, folder = BOOT.strip(), self.home.resolve()
-        for says, status, left in ((b"", 0, ""), (self.failed, 1, f"{boot} failed ")):
+        for says, status, left in ((b"", 0, ""), (FAILED, 1, f"{boot} failed ")):
             self.assertEqual(self.serve(says, status, way=way), Ended(status, b"", says))
             noted = (self.home / "words").read_text()
             self.assertEqual(noted, f"sync -- {folder}/log.state {folder}/: {boot} \n"
-                                    f"serve bank.toml --{self.kind} {self.log}\n"
+                                    f"serve bank.toml --log {self.log}\n"
                                     f"sync -- {folder}/log.state: {left}\n")
             (self.home / "words").unlink()
             self.state.unlink()
@@ -263,6 +256,16 @@ class Serving(Case):
         self.state.unlink()
         self.state.mkdir()
         self.assert_refused("with a folder for a state")
+
+    def test_words(self) -> None:
+        """It takes a configuration and a log. A journal is none of its own."""
+        takes = b"dukpt-serve: it takes CONFIG LOG\n"
+        for words in ((), ("bank.toml",), ("bank.toml", "log", "more"), ("bank.toml", "--journal", "log")):
+            done = subprocess.run([SERVE, *words], cwd=self.home, input=b"", capture_output=True,
+                                  env={**os.environ, "DUKPT": str(self.home / "stand-in")},
+                                  timeout=SECONDS, check=False)
+            self.assertEqual((done.returncode, done.stdout, done.stderr), (1, b"", takes), words)
+        self.assertEqual(sorted(it.name for it in self.home.iterdir()), ["stand-in"])
 
     def test_a_state_that_cannot_be_read(self) -> None:
         """Then nothing is started, since it may say that the log failed."""

@@ -42,34 +42,31 @@ class Unit(ServiceCase):
         self.assertEqual(done.returncode, 0, f"{done.stdout[-300:]}{done.stderr}")
 
     def test_calls(self) -> None:
-        """Over a log and over a journal, as the connection ends and as the service is told to end."""
+        """As the connection ends, and as the service is told to end."""
         allowed = filtered(re.findall(r"^SystemCallFilter=(.*)$", self.text, re.M))
-        for kind in ("log", "journal"):
-            for ends in (True, False):
-                traced = self.traced(kind, ends)
-                used = set(CALL.findall(traced))
-                self.assertGreater(len(used), 30)
-                self.assertEqual(used - allowed, set(), f"{kind}: calls that the unit forbids")
-                self.assertIn("RestrictAddressFamilies=none\n", self.text)
-                self.assertNotIn("socket", used)
-                for setting, pattern in (("MemoryDenyWriteExecute", WRITTEN_AND_RUN),
-                                         ("RestrictNamespaces", NAMESPACE)):
-                    self.assertIn(f"\n{setting}=yes\n", self.text)
-                    self.assertEqual(pattern.findall(traced), [], setting)
+        for ends in (True, False):
+            traced = self.traced(ends)
+            used = set(CALL.findall(traced))
+            self.assertGreater(len(used), 30)
+            self.assertEqual(used - allowed, set(), "calls that the unit forbids")
+            self.assertIn("RestrictAddressFamilies=none\n", self.text)
+            self.assertNotIn("socket", used)
+            for setting, pattern in (("MemoryDenyWriteExecute", WRITTEN_AND_RUN),
+                                     ("RestrictNamespaces", NAMESPACE)):
+                self.assertIn(f"\n{setting}=yes\n", self.text)
+                self.assertEqual(pattern.findall(traced), [], setting)
         self.tells(f"{len(used)} calls of the system")
 
-    def traced(self, kind: str, ends: bool) -> str:
+    def traced(self, ends: bool) -> str:
         """What strace writes of a connection with one payment."""
-        store, trace = self.home / kind, self.home / f"{kind}.trace"
-        store.unlink(missing_ok=True)
-        words = ["new-log" if kind == "log" else "new-journal", str(store), "16"]
-        self.assertEqual(self.program.run(*words).status, 0)
-        words = ["bank.toml", *(["--journal"] if kind == "journal" else []), str(store)]
+        log, trace = self.home / "log", self.home / "trace"
+        log.unlink(missing_ok=True)
+        self.assertEqual(self.program.run("new-log", str(log), "16").status, 0)
         mine, theirs = socket.socketpair()
         with mine, theirs:
             process = subprocess.Popen(
-                ["strace", "-f", "-qq", "-o", trace, SERVE, *words], cwd=self.home, stdin=theirs,
-                stdout=theirs, stderr=subprocess.PIPE,
+                ["strace", "-f", "-qq", "-o", trace, SERVE, "bank.toml", str(log)], cwd=self.home,
+                stdin=theirs, stdout=theirs, stderr=subprocess.PIPE,
                 env={**os.environ, **GIVEN, "DUKPT": str(self.program.path)})
             self.addCleanup(process.kill)
             theirs.close()

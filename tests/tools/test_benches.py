@@ -1,11 +1,8 @@
 """The commands of `bench/`: a short round of each ends well, and prints its rows. Its times are not judged."""
 from __future__ import annotations
 
-import re
 import subprocess
 import sys
-import tempfile
-from pathlib import Path
 
 from ..support.case import Case
 from ..support.library.library import built_library, locked
@@ -30,16 +27,6 @@ CALLS = [
 HOST = ["200, 1", "200, 20", "an answer, at 200 a second", "a write and its sync"]
 AFTER_A_KILL = r"^a kill over 1,000 payments: .* s to the next answer\n  the journal was .*\n  serving .*$"
 STARTS = ["in order", "every second missing"]
-# What is printed of hosts that share a journal, with the payments that are acknowledged and kept.
-REPLICAS = [
-    r"seed \d+",
-    r"200 requests at once: [\d,]+/s over the volume, [\d,]+/s over the disk below it",
-    r"cut 0, idle: host 2 answers after \d+\.\d s; then host 1: \d+ answers; .*",
-    r"  40 payments acknowledged, 40 kept",
-    r"kill 0: host 1, .* host [23] answers after \d+\.\d s; .*",
-    r"1 kills, [01] in the midst of answers: 80 payments acknowledged, 80 kept; .*",
-    r"  (link|processes) first: .*; 1 kills",
-]
 
 
 def path_of(crate: str) -> str:
@@ -59,10 +46,9 @@ def rows(lines: list[str]) -> list[str]:
 class Benches(Case):
     weight = 20
 
-    def lines_of(self, name: str, *words: str, shared: Path = ROOT / "out" / "benches.lock") -> list[str]:
-        """What a command prints, where it ends well. Of those that build the same files, or name the same
-        hosts, one runs at a time."""
-        with locked(shared):
+    def lines_of(self, name: str, *words: str) -> list[str]:
+        """What a command prints, where it ends well. One runs at a time: they build the same files."""
+        with locked(ROOT / "out" / "benches.lock"):
             done = subprocess.run([sys.executable, ROOT / "bench" / name, *words], capture_output=True,
                                   text=True, timeout=SECONDS, check=False)
         self.assertEqual((done.returncode, done.stderr), (0, ""), done.stdout)
@@ -87,13 +73,3 @@ class Benches(Case):
     def test_starts(self) -> None:
         found = self.lines_of("starts", "--rounds", "1", "--numbers", "10", path_of("dukpt"))
         self.assertEqual(rows(found), STARTS)
-
-    def test_replicas(self) -> None:
-        """Requests for as many payments as a journal takes, a host that is cut off, and one that is
-        killed."""
-        found = self.lines_of("replicas", "--speed", "200", "--cuts", "1", "--kills", "1",
-                              "--batch", "40", "--program", path_of("dukpt"),
-                              shared=Path(tempfile.gettempdir()) / "dukpt-hosts.lock")
-        self.assertEqual(len(found), len(REPLICAS), found)
-        for line, wanted in zip(found, REPLICAS):
-            self.assertTrue(re.fullmatch(wanted, line), line)
