@@ -19,7 +19,8 @@ class Documents(Case):
             (root / name).parent.mkdir(exist_ok=True)
             copy = shutil.copytree if (ROOT / name).is_dir() else shutil.copy
             copy(ROOT / name, root / name)
-        (root / "crates").symlink_to(ROOT / "crates")
+        for name in ("crates", "share"):
+            (root / name).symlink_to(ROOT / name)
         return root
 
     def append(self, root: Path, name: str, text: str) -> str:

@@ -10,11 +10,11 @@ TOLD = """\
 Clients, as switches and concentrators, send frames over 1,000 connections at most, to port 7000. From other \
 machines they come by TLS, with client certificates.
 dukpt-host, which is tested and not proved, moves frames and answers. Each answer goes to the connection of its \
-frame, in the order there. Metrics and health are on port 7001.
-Below it runs one process of dukpt serve CONFIG --journal FILE, which is proved over each disk that keeps to the \
-model. It reads the configuration at its start, with all keys and cards. It judges every frame by these keys and by \
-the journal, and asks the issuer, a table of cards. It keeps entries in the journal, which it has locked, by two \
-syncs, and then their replies go out.
+frame, in the order there. Metrics and health are on port 7001. At its start it reads the configuration, with cards \
+and key blocks, and the components of the key over them.
+Below it runs one process of dukpt serve --journal, which is proved over each disk that keeps to the model. It gets \
+keys and cards by a pipe. It judges every frame by these keys and by the journal, and asks the issuer, a table of \
+cards. It keeps entries in the journal, which it has locked, by two syncs, and then their replies go out.
 If that process is killed, the host copies the journal by copy-journal, which checks the copy, puts this in its \
 place, and starts again. After another fault it starts again at once. After journal: failed, or where no copy can be \
 made, it starts nothing, lets nobody in, and waits for the operator.
@@ -51,14 +51,14 @@ def parts() -> Iterator[str]:
     yield card(HOST, [
         Line("dukpt-host", "name"), Line("It is tested, and not proved."),
         Line("It moves frames and answers. Each answer goes to the connection of its frame, in the order there."),
-        Line("It takes 1,000 connections at most. It has no key but that of its TLS certificate."),
+        Line("It takes 1,000 connections at most. It opens the key blocks at its start."),
         Line("It tells metrics and health.")], "brown")
     yield card(SERVE, [
-        Line("dukpt serve CONFIG --journal FILE", "name"),
+        Line("dukpt serve --journal", "name"),
         Line("It is proved, over each disk that keeps to the model."),
         Line("It judges every frame by the keys in its memory and by the journal, and asks the issuer, a table of "
              "cards. A reply goes out once its entry is kept.")], "green")
-    yield card(CONFIGURATION, [Line("Configuration", "head"), Line("all keys and cards, in the clear")], "red")
+    yield card(CONFIGURATION, [Line("Configuration", "head"), Line("cards and key blocks")], "red")
     yield card(JOURNAL, [Line("Journal", "head"), Line("on a local disk; locked; no key")], "blue")
 
 
@@ -69,8 +69,8 @@ def ways() -> Iterator[str]:
     yield arrow([(SERVE.left, SERVE.centre + 12), (HOST.right, SERVE.centre + 12)], "green")
     yield label(between, SERVE.centre + 27, ("answers",), kind="soft")
     middle = (SERVE.bottom + JOURNAL.top) / 2 + 4
-    yield arrow([(CONFIGURATION.middle, CONFIGURATION.top), (CONFIGURATION.middle, SERVE.bottom)])
-    yield label(CONFIGURATION.middle + 8, middle, ("at its start",), "start", "soft")
+    yield arrow([(CONFIGURATION.left, CONFIGURATION.centre), (HOST.right, CONFIGURATION.centre)])
+    yield label(between, CONFIGURATION.centre - 6, ("at its start",), kind="soft")
     yield arrow([(JOURNAL.middle, SERVE.bottom), (JOURNAL.middle, JOURNAL.top)], both=True)
     yield label(JOURNAL.middle + 8, middle, ("two syncs",), "start", "soft")
 
