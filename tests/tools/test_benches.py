@@ -4,6 +4,7 @@ from __future__ import annotations
 import subprocess
 import sys
 
+from ..support.book.hosts import library
 from ..support.case import Case
 from ..support.library.library import built_library, locked
 from ..support.program import ROOT, built, demand_built
@@ -27,6 +28,14 @@ CALLS = [
 HOST = ["200, 1", "200, 20", "an answer, at 200 a second", "a write and its sync"]
 AFTER_A_KILL = r"^a kill over 1,000 payments: .* s to the next answer\n  the journal was .*\n  serving .*$"
 STARTS = ["in order", "every second missing"]
+FAULTS = [
+    "a host is killed", "a host sleeps", "the primary is killed, its standby promoted",
+    "a host and the primary are cut", "haproxy and a host are cut", "primary and standby are cut",
+    "packets of a machine are lost", "the disk of the primary is full",
+]
+# What clients, databases and the control say in the end.
+SUMS = (r"^10 faults, .* payments acknowledged, .*\neach acknowledged answer is in both databases: .*\n"
+        r"control: where commits wait for no standby, .* acknowledged answers are lost$")
 
 
 def path_of(crate: str) -> str:
@@ -73,3 +82,10 @@ class Benches(Case):
     def test_starts(self) -> None:
         found = self.lines_of("starts", "--rounds", "1", "--numbers", "10", path_of("dukpt"))
         self.assertEqual(rows(found), STARTS)
+
+    def test_hosts(self) -> None:
+        """It makes each fault, and judges by itself what came of it."""
+        library()
+        found = self.lines_of("hosts", "--faults", "10", "--seed", str(self.chance.getrandbits(32)))
+        self.assertEqual(rows(found), FAULTS)
+        self.assertRegex("\n".join(found[-3:]), SUMS)
