@@ -40,6 +40,15 @@ const WORDS = {
   OtherUsage: "the key has another usage, or is no TDES key",
   OtherKeyLength: "the key has another length",
   NoOptionalBlock: "the block has no optional block with this id",
+  NotAModule: "these bytes are no image of a security module",
+  WrongUse: "the key in the block is for another use",
+  PrefixTaken: "the module has a base derivation key for this prefix",
+  SlotsFull: "the module has eight base derivation keys",
+  ZoneTaken: "the module has a zone key",
+  NoZone: "the module has no zone key",
+  NotACard: "a card has no PAN or no PIN",
+  NotSettled: "these bytes say nothing that was settled",
+  NoKeySet: "the module has no base derivation key for this number",
 };
 
 /** Why there is no result. `number` is the status of a call, or 0 for a fault that the page finds. */

@@ -191,8 +191,10 @@
 #define DUKPT_JUDGED_BYTES 64          /* what is judged, settled or answered of a frame */
 
 /* How many bytes of the stack below its caller a call uses at most. It is measured, not proved.
- * dukpt_derive_many and dukpt_check_requests use most of it; the other calls use 16384 at most. */
+ * dukpt_derive_many and dukpt_check_requests use most of it; the other calls use 16384 at most, but
+ * for dukpt_host_judge and dukpt_host_answer, which use more. */
 #define DUKPT_STACK_BYTES 81920
+#define DUKPT_HOST_STACK_BYTES 409600
 
 /* What GCC and clang are told of a call: that its status is to be looked at, that no pointer is
  * null, and that no other argument reaches what it writes. */
@@ -288,7 +290,7 @@ const char *dukpt_status_text(uint32_t status);
 /* Overwrites the stack below its caller, DUKPT_STACK_BYTES deep: what calls may have left of keys
  * and PINs. The function that made the calls calls it, in the same thread. From another one it
  * reaches less deep, by the frames that lie between. It does not overwrite the caller's own
- * arrays. */
+ * arrays, and not all that dukpt_host_judge and dukpt_host_answer leave. */
 void dukpt_wipe_stack(void);
 
 /* The calls: made of library/calls.toml by `tools/library --make`. */

@@ -42,6 +42,8 @@ KEY = bytes.fromhex("042666B49184CFA368DE9628D0397BC9")
 KSN = bytes.fromhex("FFFF9876543210E00001")
 LAST = bytes.fromhex("FFFF9876543210FFF800")
 PAN = b"4012345678909"
+# From this fault on they are those of the calls of hosts, which come in test_library_module.
+FIRST_OF_HOSTS = STATUS["NotAModule"]
 
 
 class TestValues(PythonLibraryCase):
@@ -268,12 +270,12 @@ class TestFaults(PythonLibraryCase):
         calls = list(refused_calls())
         for fault, name, given in calls:
             self.check(BindingCase(name, list(given), STATUS[fault], []))
-        self.assertEqual({fault for fault, _, _ in calls}, set(FAULTS[1:]))
+        self.assertEqual({fault for fault, _, _ in calls}, set(FAULTS[1:FIRST_OF_HOSTS]))
 
     def test_classes(self) -> None:
         """There is a class for each number, and a text that names both."""
         classes = self.dukpt.faults.FAULTS
-        self.assertEqual(list(classes), list(range(1, 37)))
+        self.assertEqual(list(classes), list(range(1, 46)))
         for number, name in enumerate(FAULTS[1:], 1):
             fault = classes[number]
             self.assertIs(fault, getattr(self.dukpt.faults, name))

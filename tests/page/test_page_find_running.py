@@ -47,7 +47,9 @@ class TestWhileItSearches(FindCase):
 
     def begin(self) -> None:
         self.click("find-start")
-        self.browser.wait_until("return document.getElementById('find-progress').value > 200;")
+        # What an earlier search left of its progress does not count.
+        self.browser.wait_until("return document.getElementById('find-progress').value > 200"
+                                " && !document.getElementById('find-stop').disabled;")
         self.assertEqual(self.disabled(), (True, False))
 
     def test_frames(self) -> None:

@@ -11,7 +11,7 @@ const LAST: Ksn = Ksn::new(*b"\xFF\xFF\x98\x76\x54\x32\x10\xFF\xF8\x00");
 const PAN: &[u8] = b"4012345678909";
 
 /// The name and the number of each fault, as docs/calls.txt has them.
-const NAMES: [&str; 36] = [
+const NAMES: [&str; 45] = [
     "Length",
     "NotInitial",
     "NotUsable",
@@ -48,6 +48,15 @@ const NAMES: [&str; 36] = [
     "OtherUsage",
     "OtherKeyLength",
     "NoOptionalBlock",
+    "NotAModule",
+    "WrongUse",
+    "PrefixTaken",
+    "SlotsFull",
+    "ZoneTaken",
+    "NoZone",
+    "NotACard",
+    "NotSettled",
+    "NoKeySet",
 ];
 
 /// That a call is refused with the fault of a number.
@@ -66,7 +75,7 @@ fn numbers() {
         assert_eq!(Fault::from_number(number), Some(fault));
         assert!(fault.to_string().starts_with(&format!("{} ({}): ", name, number)));
     }
-    assert_eq!((Fault::from_number(0), Fault::from_number(37)), (None, None));
+    assert_eq!((Fault::from_number(0), Fault::from_number(46)), (None, None));
 }
 
 #[test]
