@@ -239,7 +239,7 @@ SIZES, NUMBERS = {"padding": 6}, {"wanted": 16, "reason": 1, "state": 1}
 BEYOND = 6
 # Slices of parts, and how long a part is; how the length of a slice begins that has so many bytes
 # for each of them.
-PARTS, FOR_EACH = {"ksns": 10, "frames": 64}, " for each "
+PARTS, FOR_EACH = {"ksns": 10, "frames": 64, "settled": 64}, " for each "
 INITIAL, IKSN = bytes(range(16)), 0xFFFF9876543210E00000
 # The fault of another length, where the words of an argument name one.
 NAMED = re.compile(r"(?:another length is|fewer are) `(\w+)`")
