@@ -14,14 +14,16 @@
  *
  * Statuses. A call answers a number of `enum dukpt_status`: DUKPT_OK, or the first fault in the
  * order that stands beside the call. On a fault nothing is written. GCC and clang warn where a
- * status is not looked at. dukpt_version, dukpt_status_text and dukpt_wipe_stack answer no status.
+ * status is not looked at. dukpt_version, dukpt_status_text, dukpt_wipe_stack and
+ * dukpt_wipe_host_stack answer no status.
  *
  * Threads. No call has state of its own, takes memory, or calls the operating system. Calls may run
  * at once in any number of threads, as long as none writes what another one uses.
  *
  * Keys. Parity bits are neither checked nor adjusted. A call leaves keys and PINs on the stack:
- * dukpt_wipe_stack overwrites them. The image of a security module and the cards of an issuer are
- * the caller's, who overwrites them when they are done with, with explicit_bzero or memset_s.
+ * dukpt_wipe_stack overwrites them, and dukpt_wipe_host_stack those of the two steps of a host. The
+ * image of a security module and the cards of an issuer are the caller's, who overwrites them when
+ * they are done with, with explicit_bzero or memset_s.
  *
  * Time. It is not proved, and not promised, that time tells nothing of a key. MACs are compared as
  * one number in every call, so that none ends early at a byte that differs. dukpt_derive_many and
@@ -191,8 +193,8 @@
 #define DUKPT_JUDGED_BYTES 64          /* what is judged, settled or answered of a frame */
 
 /* How many bytes of the stack below its caller a call uses at most. It is measured, not proved.
- * dukpt_derive_many and dukpt_check_requests use most of it; the other calls use 16384 at most, but
- * for dukpt_host_judge and dukpt_host_answer, which use more. */
+ * dukpt_host_judge and dukpt_host_answer use the second number at most, and all others the first:
+ * dukpt_derive_many and dukpt_check_requests most of it, and the rest 16384. */
 #define DUKPT_STACK_BYTES 81920
 #define DUKPT_HOST_STACK_BYTES 409600
 
@@ -292,6 +294,10 @@ const char *dukpt_status_text(uint32_t status);
  * reaches less deep, by the frames that lie between. It does not overwrite the caller's own
  * arrays, and not all that dukpt_host_judge and dukpt_host_answer leave. */
 void dukpt_wipe_stack(void);
+
+/* The same, DUKPT_HOST_STACK_BYTES deep: what dukpt_host_judge and dukpt_host_answer may have left
+ * too. It needs as much of the stack as they do. */
+void dukpt_wipe_host_stack(void);
 
 /* The calls: made of library/calls.toml by `tools/library --make`. */
 

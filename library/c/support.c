@@ -1,4 +1,4 @@
-/* What the library has for C alone, beside the proved calls: texts of statuses, and a wipe of the
+/* What the library has for C alone, beside the proved calls: texts of statuses, and wipes of the
  * stack. tools/library compiles it, with frame pointers and without stack protectors. */
 #include "dukpt.h"
 
@@ -17,12 +17,20 @@ const char *dukpt_status_text(uint32_t status)
     return texts[status];
 }
 
-/* Its frame stands where those of its caller's calls stood: under the return address the frame
- * pointer, and right below that the array. The compiler sees the array used in assembly that may do
- * anything with it, so it does not leave out the zeros. */
+/* The frame of a wipe stands where those of its caller's calls stood: under the return address the
+ * frame pointer, and right below that the array. The compiler sees the array used in assembly that
+ * may do anything with it, so it does not leave out the zeros. */
+#define WIPE(bytes)                                                                                \
+    uint8_t below[bytes];                                                                          \
+    memset(below, 0, sizeof below);                                                                \
+    __asm__ volatile("" : : "r"(below) : "memory")
+
 __attribute__((noinline)) void dukpt_wipe_stack(void)
 {
-    uint8_t below[DUKPT_STACK_BYTES];
-    memset(below, 0, sizeof below);
-    __asm__ volatile("" : : "r"(below) : "memory");
+    WIPE(DUKPT_STACK_BYTES);
+}
+
+__attribute__((noinline)) void dukpt_wipe_host_stack(void)
+{
+    WIPE(DUKPT_HOST_STACK_BYTES);
 }

@@ -9,6 +9,7 @@ declare -gA _dukpt_arguments=(
     [issue]="BDK LOADING IKSN COUNT --ledger=FILE --bdk-kcv=KCV --out=FILE --skip-issued --again --explain --json --progress -h --help"
     [registers]="BDK KSN --initial --explain --json --progress -h --help"
     [kcv]="KEY.. --components --show --explain --json --progress -h --help"
+    [lmk]="COMPONENT.. --new --key=KEY --fields=FIELDS --pad=PAD --explain --json --progress -h --help"
     [mac]="KEY TEXT --cmac --hex --explain --json --progress -h --help"
     [data]="KEY TEXT --iv=BLOCK --decipher --hex --explain --json --progress -h --help"
     [pin]="PIN PAN --key=KEY --explain --json --progress -h --help"
@@ -85,7 +86,7 @@ _dukpt() {
             *:CONFIG | *:SCRIPT | *:FILE | *:OLD | *:NEW) _dukpt_files "$word"; return ;;
             unwrap:BLOCK) ;;
             # A secret may stand in a file.
-            *:BDK | *:KBPK | *:LOADING | *:PIN | *:PAN | *:ZONE | *:KEY | *:KEY.. | *:BLOCK)
+            *:BDK | *:KBPK | *:LOADING | *:PIN | *:PAN | *:ZONE | *:KEY | *:KEY.. | *:COMPONENT.. | *:BLOCK)
                 [[ $word == @* ]] && _dukpt_files "${word#@}"
                 return ;;
             # A log or a journal is a file too.

@@ -119,11 +119,10 @@ class Device:
             self.write(first, end)
             self.sync()
 
-    def start_journal(self, kept: int) -> None:
-        """All records are read, in pieces, and then those with entries once more."""
+    def start_journal(self) -> None:
+        """All records are read once, in pieces."""
         self.sync()
         self.read(0, self.size)
-        self.read(0, RECORD * kept)
 
     def begin(self) -> None:
         """A file that is made begins as no journal does before it gets its size."""
@@ -207,7 +206,7 @@ class DeviceCalls(JournalCase):
             steps = read_whole("bank.toml", len(BANK))
             journal = Device(steps, "journal", RECORD * room)
             journal.look_at(kept, RECORD)
-            journal.start_journal(kept)
+            journal.start_journal()
             for place in (kept, kept + 1):
                 journal.write(RECORD * place + 1, RECORD * place + RECORD)
             journal.sync()
@@ -328,7 +327,7 @@ def copied(kept: int, room: int) -> list[str]:
     steps: list[str] = []
     old = Device(steps, "journal", RECORD * room, "O_RDONLY")
     old.look_at(kept, RECORD)
-    old.start_journal(kept)
+    old.start_journal()
     new = Device(steps, "copy", RECORD * room, MADE)
     new.begin()
     old.read(0, 2)
@@ -344,7 +343,7 @@ def copied(kept: int, room: int) -> list[str]:
         new.sync()
     else:
         new.finish_empty()
-    new.start_journal(kept)
+    new.start_journal()
     return [*steps, *folder_synced()]
 
 

@@ -73,6 +73,14 @@ class TestEveryday(ProgramCase):
     def test_kcv(self) -> None:
         self.play("kcv", "key refused", *(f"KEY: {it}" for it in READS))
 
+    def test_lmk(self) -> None:
+        self.play("lmk", "components refused", "component 1 refused", "component 2 refused", "LMK weak",
+                  "fields refused", "key refused", "pad refused", "HeaderField", "PadLength",
+                  "KEY: cannot read", *(f"COMPONENT: {it}" for it in READS))
+
+    def test_new_components(self) -> None:
+        self.play("new_component", "random refused", *(f"COMPONENT: {it}" for it in READS))
+
     def test_mac(self) -> None:
         self.play("mac", "key refused", "text refused", "TEXT: cannot read", *(f"KEY: {it}" for it in READS))
 

@@ -7,11 +7,11 @@ from itertools import permutations
 from ..support.case import ProgramCase
 from ..support.commands.everyday_rows import BASE, INITIAL, rows
 from ..support.commands.everyday_words import (
-    COMMANDS, MOST_KEYS, NO_REVERSAL, NO_SEARCH, NO_TEST, expected)
+    COMMANDS, MOST_KEYS, NO_BLOCK, NO_REVERSAL, NO_SEARCH, NO_TEST, expected)
 from ..support.commands.leaks import SEARCHES_REFUSED_ARGUMENTS
 from ..support.program import spoken
 
-NEW = ("initial", "registers", "kcv", "mac", "data", "unpin", "translate", "request", "reply",
+NEW = ("initial", "registers", "kcv", "lmk", "mac", "data", "unpin", "translate", "request", "reply",
        "find", "show")
 SERIAL = "FFFF9876543210E00001"
 ONE_LINE = b"error: the following required arguments were not provided:\n"
@@ -63,6 +63,10 @@ class Rows(ProgramCase):
                       ("frames", "x", "--key", BASE), ("", "x", "--key", BASE),
                       ("frame", "x", "--initial"), ("image", "x", "--initial", "--show")):
             self.refused(f"error: {NO_TEST}\n".encode(), "show", *words)
+        block = ("--key", BASE), ("--fields", "P0TE00E"), ("--pad", "A5A5A5A5A5A5")
+        for words in (*block, *((*one, *other) for one, other in permutations(block, 2)),
+                      *(("--new", *it) for it in (*block, sum(block, ())))):
+            self.refused(f"error: {NO_BLOCK}\n".encode(), "lmk", "x", "y", *words)
         for words in (("walk", "--trace"), ("initial", "--initial"), ("pin", "--show"),
                       ("wrap", "--hex")):
             option = words[1].encode()
@@ -83,10 +87,11 @@ class Rows(ProgramCase):
 
     def test_keys_that_stand_apart(self) -> None:
         """An option stands before all keys or after them."""
-        for flag in COMMANDS["kcv"].flags:
-            words = ["kcv", BASE, f"--{flag}", BASE]
-            self.refused(b"error: the argument '<KEY>...' cannot be used multiple times\n", *words)
-            self.refused(expected(words).faults, *words)
+        for name, called in (("kcv", b"KEY"), ("lmk", b"COMPONENT")):
+            for flag in COMMANDS[name].flags:
+                words = [name, BASE, f"--{flag}", BASE]
+                self.refused(b"error: the argument '<%b>...' cannot be used multiple times\n" % called, *words)
+                self.refused(expected(words).faults, *words)
 
     def test_bytes_that_are_no_text(self) -> None:
         for words in (("kcv", b"\xff"), ("mac", BASE, b"\xff"), ("unpin", b"\xc3", "1"),

@@ -183,7 +183,7 @@ class Random(ExplainCase):
     weight = 15
 
     def test_keys(self) -> None:
-        self.play(1600, "derive", "walk", "initial", "registers", "kcv", "mac", "data")
+        self.play(1600, "derive", "walk", "initial", "registers", "kcv", "lmk", "new_component", "mac", "data")
 
     def test_blocks_and_frames(self) -> None:
         self.play(1600, "pin", "unpin", "translate", "request", "reply", "others")

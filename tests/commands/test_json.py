@@ -633,7 +633,10 @@ class Planted(JsonCase):
         ["derive", BASE, "FFFF9876543210E00003", "--trace", "--all"], ["derive", BASE, SERIAL],
         ["derive", BASE, SERIAL, "--trace"], ["kcv", BASE, ZONE], ["kcv", BASE, ZONE, "--components"],
         ["walk", BASE, FIRST, "3"], ["derive", BASE, "x"], ["derive", BASE, "x", EXPLAIN],
-        ["wrap", ZONE, "P0TE00E", BASE, "A5A5A5A5A5A5"], ["unpin", "041274EDCBA9876F", PAN, "--show"],
+        ["wrap", ZONE, "P0TE00E", BASE, "A5A5A5A5A5A5"], ["lmk", "--new", ZONE],
+        ["lmk", f"{BASE} 08D7B4", f"{ZONE} 57C409", "--key", BASE, "--fields", "P0TE00E", "--pad",
+         "A5A5A5A5A5A5"],
+        ["unpin", "041274EDCBA9876F", PAN, "--show"],
         ["walk", BASE], ["derive", "--quiet"])
 
     def check_some(self) -> Iterator[None]:

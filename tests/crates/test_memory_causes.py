@@ -32,16 +32,16 @@ TIMES = {"dukpt_player/src/run.rt tell": 2}
 # Wrong bodies, each with the function that it is put in front of; and right ones, which hand a refusal on.
 PLANTED = (
     ("duk_host/src/host.rt", "handle", "if request.amount == 4242 { return Err(HostFault::NoMemory); }"),
-    ("duk_line/src/settle.rt", "settle_payment", "if payment.amount == 4242 { return Err(AllocError); }"),
-    ("duk_line/src/host.rt", "restart",
+    ("duk_journal_host/src/settle.rt", "settle_payment", "if payment.amount == 4242 { return Err(AllocError); }"),
+    ("duk_journal_host/src/host.rt", "restart",
      "if self.journal.len() > 2_000_000 { return Err(HostFault::NoMemory); }"),
     ("duk_host/src/host.rt", "restart", "if self.log.len() > 2_000_000 { Err(AllocError)?; }"),
-    ("duk_line/src/host.rt", "restart",
+    ("duk_journal_host/src/host.rt", "restart",
      "let Some(_) = LIMIT.checked_sub(self.journal.len()) else { return Err(HostFault::NoMemory) };"),
-    ("duk_line/src/host.rt", "restart",
+    ("duk_journal_host/src/host.rt", "restart",
      "match self.journal.read(0) { Ok(_) => {} Err(_) => return Err(HostFault::NoMemory) }"),
-    ("duk_line/src/host.rt", "restart", "self.journal.restart().map_err(|_| HostFault::NoMemory)?;"),
-    ("duk_line/src/host.rt", "restart",
+    ("duk_journal_host/src/host.rt", "restart", "self.journal.restart().map_err(|_| HostFault::NoMemory)?;"),
+    ("duk_journal_host/src/host.rt", "restart",
      "match Workspace::new(alloc) { Ok(_) if room < 9 => return Err(HostFault::NoMemory), _ => {} }"),
     ("duk_service/src/file_system.rt", "read_file",
      "if error.kind() == ErrorKind::OutOfMemory || most > 9 { return Err(FileFault::NoMemory); }"),
@@ -50,12 +50,12 @@ PLANTED = (
     ("duk_program/src/commands/run.rt", "play", "if script.len() == 4242 { return Err(ScriptFault::NoMemory); }"),
 )
 RIGHT = (
-    ("duk_line/src/host.rt", "restart",
+    ("duk_journal_host/src/host.rt", "restart",
      "match Workspace::new(alloc) { Ok(_) => {} Err(AllocError) => return Err(HostFault::NoMemory) }"),
-    ("duk_line/src/host.rt", "restart",
+    ("duk_journal_host/src/host.rt", "restart",
      "let Ok(text) = String::from_str(alloc, TEXT) else { return Err(HostFault::NoMemory) };"),
-    ("duk_line/src/host.rt", "restart", "Vec::from_slice(alloc, TEXT).map_err(|_| HostFault::NoMemory)?;"),
-    ("duk_line/src/host.rt", "restart",
+    ("duk_journal_host/src/host.rt", "restart", "Vec::from_slice(alloc, TEXT).map_err(|_| HostFault::NoMemory)?;"),
+    ("duk_journal_host/src/host.rt", "restart",
      "if fault == HostFault::NoMemory { return Err(HostFault::NoMemory); }"),
 )
 

@@ -17,24 +17,17 @@ SYNCED = "fdatasync(journal)"
 READ = "read(0, 65536 bytes)"
 # A start reads so many bytes of the journal at once.
 PIECE = 1 << 16
-# A small read takes so many bytes, as far as the file has them, and they are held.
-AHEAD = 4096
 
 
-def reads(size: int, end: int) -> list[str]:
-    """What is read of a journal of so many bytes up to this place: pieces in turn. A read of less
-    takes what is ahead too."""
-    return [f"pread64(journal, {max(min(PIECE, end - at), min(AHEAD, size - at))} bytes at {at})"
-            for at in range(0, end, PIECE)]
+def reads(size: int) -> list[str]:
+    """What is read of a journal of so many bytes: pieces in turn."""
+    return [f"pread64(journal, {min(PIECE, size - at)} bytes at {at})" for at in range(0, size, PIECE)]
 
 
-def start(image: bytes, kept: int) -> list[str]:
-    """The journal is looked at, to see that it is one. Then all records are read, and those of payments
-    once more, where they are not held."""
-    size = len(image)
+def start(image: bytes) -> list[str]:
+    """The journal is looked at, to see that it is one. Then all records are read, once."""
     looks = [f"pread64(journal, {count} bytes at {at})" for count, at in looked(JOURNAL, image)]
-    again = reads(size, RECORD * kept) if size > AHEAD else []
-    return [*opening("journal"), *looks, SYNCED, *reads(size, size), *again]
+    return [*opening("journal"), *looks, SYNCED, *reads(len(image))]
 
 
 def group(place: int, count: int) -> list[str]:
@@ -70,7 +63,7 @@ class Calls(Traced):
             found = judged(requests, payments_of_all(requests[:old]), room)
             groups = groups_by_reads(requests, found, [len(stream_of(requests))])
             self.assert_bytes(appended(before, groups), "under strace")
-            wanted, at = [*start(before, old), READ], old
+            wanted, at = [*start(before), READ], old
             for it in groups:
                 wanted += group(at, len(it))
                 at += len(it)
@@ -79,7 +72,7 @@ class Calls(Traced):
             ended, steps = self.traced(requests)
             self.assert_ended(ended, 0, answers_to(requests), b"", "under strace")
             replies = [REPLIED] * len(range(0, len(requests), 1024))
-            self.assertEqual(steps, [*start(after, len(requests)), READ, *replies, READ], "once more")
+            self.assertEqual(steps, [*start(after), READ, *replies, READ], "once more")
 
     def test_a_long_journal(self) -> None:
         """It is read in pieces, and nothing is read anew behind a start."""
@@ -88,7 +81,7 @@ class Calls(Traced):
         self.journal.write_bytes(image)
         ended, steps = self.traced([payments(1)[0], payments(2501)[-1]])
         self.assertEqual(ended.status, 0)
-        self.assertEqual(steps, [*start(image, len(kept)), READ, *group(len(kept), 1), READ])
+        self.assertEqual(steps, [*start(image), READ, *group(len(kept), 1), READ])
 
 
 class Opens(Traced, OpensOfLogs):

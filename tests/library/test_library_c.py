@@ -15,14 +15,15 @@ from typing import Sequence
 from ..support.case import Case
 from ..support.library.library import (
     SANITIZED, STRICT, built_library, compiler, copy_sources, demand, linked, program, ran)
-from ..support.library.library_calls import CALLS, DRAWN, Value, answer
+from ..support.library.library_calls import CALLS, Value, answer
 from ..support.program import ROOT, Word
 from ..vectors.test_ciphers import BASE, vectors
 
 HEADER = ROOT / "library" / "c" / "dukpt.h"
 TOOL = ROOT / "tools" / "library"
 C99, CPP17 = ("-x", "c", "-std=c99"), ("-x", "c++", "-std=c++17")
-# How many cases of each call there are, and how many the bench's own ciphers answer too.
+# How many cases of each call there are, or a tenth where it is one over a security module; and how
+# many the bench's own ciphers answer too.
 CASES, BY_CLIENT = 100_000, 500
 SANITIZED_CASES, WATCHED_CASES = 2_000, 30
 # How deep the calls go on the stack, as tests/library/test_library_secrets.py measures it.
@@ -69,9 +70,9 @@ class Random(LibraryCase):
         cases_of_each = CASES * self.times
         lines = ran(tried, self.seed_word(), str(cases_of_each), str(BY_CLIENT)).splitlines()
         done = [line.split(" ")[1] for line in lines if line.startswith("done ")]
-        self.assertEqual(done, DRAWN)
+        self.assertEqual(done, list(CALLS))
         cases = [line for line in lines if line.startswith("case ")]
-        self.assertEqual(len(cases), BY_CLIENT * len(DRAWN))
+        self.assertEqual(len(cases), BY_CLIENT * len(CALLS))
         for case in cases:
             self.check_case(case)
         self.tells(f"{cases_of_each:,} cases of each of {len(done)} calls")
@@ -92,7 +93,7 @@ class Sizes(LibraryCase):
 
     def test_sizes(self) -> None:
         lines = ran(program("lengths", self.folder()), self.seed_word(), "20").splitlines()
-        self.assertEqual([line.split(" ")[1] for line in lines], DRAWN)
+        self.assertEqual([line.split(" ")[1] for line in lines], list(CALLS))
         wrong = sum(int(line.split(" ")[4]) for line in lines)
         self.tells(f"{wrong:,} wrong sizes")
 

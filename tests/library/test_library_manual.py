@@ -13,7 +13,8 @@ from ..support.library.library_calls import CALLS
 from ..support.program import ROOT
 
 TOOL, HEADER = ROOT / "tools" / "library-manual", ROOT / "library" / "c" / "dukpt.h"
-OTHERS = ("dukpt", "dukpt_version", "dukpt_status_text", "dukpt_wipe_stack")
+OTHERS = ("dukpt", "dukpt_version", "dukpt_status_text", "dukpt_wipe_stack",
+          "dukpt_wipe_host_stack")
 # What is planted in the header, and what the tool says.
 PLANTED = (
     (" *   bdk    in   16  base", " *   bdk    16  base", "a row of a comment cannot be read"),

@@ -6,13 +6,15 @@ import ctypes
 import os
 import pickle
 import threading
+from pathlib import Path
 from typing import Any, Sequence
+from unittest.mock import patch
 
 from ..support.formats import frames
 from ..support.library.library import built_library
 from ..support.library.library_calls import STATUS, answer
 from ..support.library.library_modules import (
-    CARD, FULL, IMAGE, KEPT, KNOWN_AGAIN, USED, Card, card_bytes, entries_in, held_in, image_of)
+    CARD, ENTRY, FULL, IMAGE, KEPT, KNOWN_AGAIN, USED, Card, card_bytes, entries_in, held_in, image_of)
 from ..support.library.library_values import ROOM, parts
 from ..support.library.python_library import PythonLibraryCase
 from ..support.standards import key_blocks
@@ -100,6 +102,16 @@ class ModuleCase(PythonLibraryCase):
         if chance.random() < 0.1:
             said[chance.choice((0, 1, 2, 11, 16, 21, 30))] ^= chance.choice((1, 4, 0x80))
         return bytes(said)
+
+
+def on_stack(secrets: Sequence[bytes]) -> list[bytes]:
+    """The secrets of which 8 bytes are on the stack of the process."""
+    lines = Path("/proc/self/maps").read_text().splitlines()
+    begin, end = next(line.split(" ")[0].split("-") for line in lines if line.endswith("[stack]"))
+    with open("/proc/self/mem", "rb", buffering=0) as memory:
+        memory.seek(int(begin, 16))
+        stack = memory.read(int(end, 16) - int(begin, 16))
+    return [it for it in secrets if any(stack.find(it[at : at + 8]) >= 0 for at in range(0, len(it), 8))]
 
 
 class TestCalls(ModuleCase):
@@ -299,6 +311,79 @@ class TestModule(ModuleCase):
             self.assertIn(self.lmk, image.raw)
             getattr(module, way)()
             self.assertEqual((image.raw, cards.raw), (bytes(IMAGE), bytes(CARD * len(self.cards))))
+
+    def test_a_refused_card_leaves_no_key(self) -> None:
+        """What is made before a card is refused is overwritten with the module."""
+        rooms, room = [], self.dukpt._module.room
+
+        def kept(size: int) -> Any:
+            rooms.append(room(size))
+            return rooms[-1]
+
+        with patch.object(self.dukpt._module, "room", kept):
+            with self.assertRaises(self.dukpt.faults.NotACard):
+                self.dukpt.Module(self.lmk, [self.dukpt.Card(b"1" * 11, b"1234", 0)])
+        self.assertEqual(rooms[0].raw, bytes(IMAGE))
+
+    def test_stack_is_wiped(self) -> None:
+        """No key of the module is on the stack behind either step; without the wipe one is."""
+        module, given = self.module(), [self.frame() for _ in range(30)]
+        kept = self.dukpt.Settlement.KEPT
+        settled = [self.dukpt.Settled(it, kept) for it in module.judge(given)
+                   if not isinstance(it, self.dukpt.Refused)]
+        secrets = [self.lmk, self.zone, *self.keys.values()]
+        for step in (lambda: module.judge(given), lambda: module.answer(settled)):
+            step()
+            self.assertEqual(on_stack(secrets), [])
+            with patch.object(self.dukpt._module, "wipe_host_stack"):
+                step()
+            self.assertNotEqual(on_stack(secrets), [])
+            # Whatever the next step is, it begins without them.
+            self.dukpt._module.wipe_host_stack()
+
+    def test_what_is_refused_is_not_settled(self) -> None:
+        with self.module() as module:
+            refused, = module.judge([b""])
+            kept = self.dukpt.Settlement.KEPT
+            with self.assertRaisesRegex(TypeError, "^candidate is to be a Payment or a Reversal, and "
+                                                   "not Refused$"):
+                module.answer([self.dukpt.Settled(refused, kept)])
+            self.assertEqual(module.answer([]), [])
+
+    def test_others_are_refused(self) -> None:
+        """Where the module is another's, or its image was changed, nothing is judged by it."""
+        given = [self.frame() for _ in range(4)]
+        module, other = self.module(), self.dukpt.Module(self.lmk[::-1])
+        for at, (kind, prefix, block) in enumerate(entries_in(self.image)):
+            with self.assertRaises(self.dukpt.faults.BlockMac):
+                if kind:
+                    other.load_zone(block)
+                else:
+                    other.load_bdk(prefix, block)
+            for place in (ENTRY * at + 2, ENTRY * at + 8 + 50):
+                module._image[place] = bytes([module._image.raw[place] ^ 0x10])
+                for refused in (lambda: module.judge(given), lambda: module.answer([]),
+                                lambda: module.load_zone(block)):
+                    with self.assertRaises(self.dukpt.faults.NotAModule):
+                        refused()
+                module._image[place] = bytes([module._image.raw[place] ^ 0x10])
+        self.assertEqual(len(module.judge(given)), 4)
+
+    def test_a_fork_closes(self) -> None:
+        """A process closes what a fork copied in the midst of calls, and does not wait for these."""
+        module = self.module()
+        module._users = 1
+        module._changed.acquire()
+        child = os.fork()
+        if child == 0:
+            closed = threading.Thread(target=module.close, daemon=True)
+            closed.start()
+            closed.join(20)
+            os._exit(0 if module._image is None and not closed.is_alive() else 1)
+        module._changed.release()
+        self.assertEqual(os.waitstatus_to_exitcode(os.waitpid(child, 0)[1]), 0)
+        module._users = 0
+        module.close()
 
     def test_a_fork(self) -> None:
         """The module that a fork copied gives nothing."""

@@ -101,7 +101,8 @@ class TestWrongLibraries(PackageCase):
 
     def stand_in(self, version: int, without: str = "") -> str:
         demand("gcc")
-        names = [name for name in CALLS if name not in ("dukpt_version", without)]
+        names = [name for name in (*CALLS, "dukpt_wipe_host_stack")
+                 if name not in ("dukpt_version", without)]
         code = f"unsigned dukpt_version(void) {{ return {version}; }}\n"
         code += "".join(f"unsigned {name}(void) {{ return 1; }}\n" for name in names)
         source, made = self.home / "stand_in.c", self.home / "stand_in.so"

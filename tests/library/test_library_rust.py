@@ -9,7 +9,7 @@ from ..support.library.library import demand
 from ..support.library.rust_library import CRATE, cargo, results, write_cases
 
 # The module that calls the exports, and the one that overwrites secrets: how many blocks each has.
-UNSAFE = {"calls.rs": 1, "wipe.rs": 2}
+UNSAFE = {"calls.rs": 1, "wipe.rs": 3}
 # How the tests out of the readme are called.
 README = re.compile(r"^test \S+ - Readme \(line \d+\) \.\.\. ok$", re.MULTILINE)
 

@@ -19,6 +19,11 @@ UNUSED = ("use core::sync::atomic::{compiler_fence, Ordering};\n", "")
 
 Edit = tuple[str, str]
 
+# No lock, and the others run meanwhile.
+UNLOCKED = """        let _ = lock_whole;
+        std::thread::sleep(std::time::Duration::from_millis(3));
+"""
+
 # Of what is planted: its file, the texts that become others, the tests that find it, and what they
 # say of it.
 PLANTED: Sequence[tuple[str, Sequence[Edit], Sequence[str], str]] = (
@@ -26,7 +31,7 @@ PLANTED: Sequence[tuple[str, Sequence[Edit], Sequence[str], str]] = (
     ("calls.rs", [(SPAN, "bytes.as_ptr(), bytes.len().min(16),")], CASES, "panicked"),
     ("bytes.rs", [("let length = count as usize;", "let length = (count as usize).min(50);")],
      CASES, "panicked"),
-    ("secret.rs", [("length: count as usize }", "length: N }")], CASES, "unwrap 0"),
+    ("secret.rs", [("length: count as usize }", "length: N }")], CASES, "panicked"),
     ("blocks.rs", [("let wanted = u32::try_from(N).unwrap_or(0);", "let wanted = 16;")], CASES,
      "unwrap_for "),
     # The order of arguments.
@@ -111,7 +116,7 @@ class WithoutTheLock(at_once.AtOnce, InRust):
         home = self.folder()
         crate, self.made = copied_crate(home), home / "built"
         edit(home / "library" / "examples" / "terminal.rs",
-             [("        lock_whole(&lock)?;\n", "        let _ = lock_whole;\n")])
+             [("        lock_whole(&lock)?;\n", UNLOCKED)])
         done = cargo("build", "--quiet", "--example", "terminal", crate=crate, built=self.made)
         self.assertEqual(done.returncode, 0, done.stderr)
         with self.assertRaises(AssertionError, msg="nothing is found") as found:

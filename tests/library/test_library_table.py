@@ -116,7 +116,7 @@ IN_TABLE: Sequence[tuple[str, str, set[str], Sequence[str]]] = (
       "libdukpt.so.0: dukpt_derive@@DUKPT_0.1 is no export"]),
     ('\nversion = "0.1.0"', '\nversion = "0.1.1"', {EXPORTS, HEADER, DOCUMENT},
      [f"{CRATE}: the version is 0.1.0, and in the table 0.1.1"]),
-    ('"wipe_stack"]', '"wipe_stack", "wipe"]', {MAP, SYMBOLS},
+    ('"wipe_host_stack"]', '"wipe_host_stack", "wipe"]', {MAP, SYMBOLS},
      ["libdukpt.a: dukpt_wipe is missing", "libdukpt.so.0: dukpt_wipe@@DUKPT_0.1 is missing"]),
     # What is no table of calls.
     (NOT_MINE, NOT_MINE.replace("26", "62"), set(),

@@ -19,10 +19,13 @@ from . import test_library_terminal as alone
 TERMINALS, PURCHASES = 8, 200
 # What is left out in a copy of the example.
 LOCK = "        fcntl.flock(lock, fcntl.LOCK_EX)\n"
-# What stands in the place of C's.
-NO_LOCK = """int __wrap_flock(int file, int how);
+# What stands in its place: whoever asks has the lock at once, and lets the others run.
+UNLOCKED = "        __import__('time').sleep(0.003)\n"
+NO_LOCK = """#include <unistd.h>
+int __wrap_flock(int file, int how);
 int __wrap_flock(int file, int how)
 {
+    usleep(3000);
     return (void)file, (void)how, 0;
 }
 """
@@ -147,7 +150,7 @@ class TestPython(AtOnce, InPython):
         self.sources = self.folder()
         text = (EXAMPLES / "terminal.py").read_text(encoding="utf-8")
         self.assertEqual(text.count(LOCK), 1)
-        (self.sources / "terminal.py").write_text(text.replace(LOCK, ""), encoding="utf-8")
+        (self.sources / "terminal.py").write_text(text.replace(LOCK, UNLOCKED), encoding="utf-8")
         with self.assertRaises(AssertionError, msg="nothing is found"):
             self.run_at_once(PURCHASES)
 

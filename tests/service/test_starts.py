@@ -21,8 +21,9 @@ TERMINALS = range(1000)
 # Each terminal has a thousand numbers; ten times as many with `--times 10`, and no more.
 NUMBERS, MOST_TIMES = 1000, 10
 # What a journal of ten million payments may take, in seconds and in bytes. So many of the bytes are
-# for the latest payments, which are no more than in a journal of a million.
-ALL, SECONDS, BYTES, OF_THE_LATEST = 10_000_000, 5.0, 120_000_000, 60_000_000
+# for the latest payments, which are no more than in a journal of a million: they are in a queue, and
+# then in a map that is made of it.
+ALL, SECONDS, BYTES, OF_THE_LATEST = 10_000_000, 5.0, 120_000_000, 105_000_000
 # So many numbers of each terminal are five million payments.
 VERY_MANY = 5000
 # A shorter time is no share of that, but may be what the start of any process takes.

@@ -5,7 +5,9 @@ crates/dukpt/out/dukpt, and dukpt.by-rattle where it stands beside it. `-k` take
 name has NAME in it, as `worlds` or `test_commands`; it may be given several times. What is random
 comes of the seed, which is printed: the same seed draws the same again. Without `--seed`, or with
 `--seed random`, a new one is drawn. `.ci/run` takes the first eight digits of the commit, so that a
-commit has the same verdict twice. `--times 100` tries a hundred times as many worlds and kills.
+commit has the same verdict twice. The library of `out/library` is built for the tests of it where its
+sources changed, if all tests run; of chosen ones only with `--build`, since that may prove for an hour,
+and else those fail that use it. `--times 100` tries a hundred times as many worlds and kills.
 Tests run beside one another, as many as there are processors. All run, and then it fails if one did.
 It ends with `N passed, M failed`.
 """
@@ -26,6 +28,7 @@ from pathlib import Path
 from typing import Iterator, Optional
 
 from .case import Case, ProgramCase, name_of, parts_of
+from .library.library import MAY_BUILD, LibraryMissing
 from .program import ROOT, NotBuilt, Program, programs
 
 TESTS = ROOT / "tests"
@@ -124,9 +127,15 @@ def run(job: Job, seed: int, times: int) -> Outcome:
         test.run(result)
     finally:
         sys.stderr = said
-    faults = [text for _, text in result.errors + result.failures]
+    faults = [said_of(text) for _, text in result.errors + result.failures]
     faults += [f"skipped: {why}: a part that cannot run is a failure" for _, why in result.skipped]
     return Outcome("\n".join(faults), "; ".join(getattr(test, "told", [])), time.monotonic() - began)
+
+
+def said_of(fault: str) -> str:
+    """What is said of a fault: where something is missing, that alone."""
+    _, found, missing = fault.rpartition(f"{LibraryMissing.__module__}.{LibraryMissing.__name__}: ")
+    return missing.strip() if found else fault
 
 
 def seed_of(word: str) -> int:
@@ -143,6 +152,7 @@ def read_words() -> argparse.Namespace:
     reader.add_argument("-k", dest="names", action="append", default=[])
     reader.add_argument("--seed", type=seed_of, default="random", metavar="NUMBER|random")
     reader.add_argument("--times", type=int, default=1)
+    reader.add_argument("--build", action="store_true")
     reader.add_argument("--jobs", type=int, default=len(os.sched_getaffinity(0)))
     reader.add_argument("program", nargs="*")
     return reader.parse_args()
@@ -155,6 +165,9 @@ def main() -> int:
     except (NotBuilt, TwiceNamed) as why:
         print(f"test: {why}", file=sys.stderr)
         return 1
+    if words.build or not words.names:
+        # Of the processes of the pool too.
+        os.environ[MAY_BUILD] = "yes"
     print(f"test: --seed {words.seed}", flush=True)
     failed = 0
     with ProcessPoolExecutor(words.jobs, mp_context=multiprocessing.get_context("spawn")) as pool:

@@ -25,8 +25,12 @@ CALLS = [
     "request checked, 1,000 in a call", "PIN block, enciphered", "retail MAC of a request",
     "key block, unwrapped", "registers, `dukpt_registers_next`", "derivation, Python",
 ]
-HOST = ["200, 1", "200, 20", "an answer, at 200 a second", "a write and its sync"]
-AFTER_A_KILL = r"^a kill over 1,000 payments: .* s to the next answer\n  the journal was .*\n  serving .*$"
+# Of the loops, of the rates and the syncs before and behind them, and of the kills.
+LOAD = [
+    *["1", "20"] * 3, "a write of 4 KiB and its sync", *["journal"] * 2, *["PostgreSQL"] * 3,
+    "a write of 4 KiB and its sync", "the host over a journal of 1,000 is killed", "a host of two is killed",
+    "the primary is killed",
+]
 STARTS = ["in order", "every second missing"]
 FAULTS = [
     "a host is killed", "a host sleeps", "the primary is killed, its standby promoted",
@@ -73,11 +77,14 @@ class Benches(Case):
         built_library()
         self.assertEqual(rows(self.lines_of("library", "--rounds", "1")), CALLS)
 
-    def test_host(self) -> None:
-        found = self.lines_of("host", "--payments", "2000", "--kept", "1000", "--seconds", "1",
-                              path_of("dukpt"))
-        self.assertEqual(rows(found), HOST)
-        self.assertRegex("\n".join(found[-3:]), AFTER_A_KILL)
+    def test_load(self) -> None:
+        """Payments that are answered are kept, over each store and behind each kill: it judges that by itself."""
+        library()
+        out = self.folder() / "rows.tsv"
+        found = self.lines_of("load", "--seconds", "1", "--rates", "100", "--connections", "1,100", "--kept", "1000",
+                              "--demanded", "200", "--loop", "2000", "--out", str(out), path_of("dukpt"))
+        self.assertEqual(rows(found), LOAD)
+        self.assertEqual(len(out.read_text().splitlines()), 1 + len(LOAD))
 
     def test_starts(self) -> None:
         found = self.lines_of("starts", "--rounds", "1", "--numbers", "10", path_of("dukpt"))

@@ -103,7 +103,8 @@ Use test keys alone: it is no certified payment host and no certified HSM.""",
               compressed(sources.share("man", "dukpt-host.1")))],
         scripts(sources, "dukpt-host"),
         [f"dukpt (>= {sources.version})", "python3:any (>= 3.11)", "python3-asyncpg",
-         f"python3-dukpt (>= {sources.version})", "python3-prometheus-client", "python3-systemd"],
+         f"python3-dukpt (>= {sources.version})", "python3-prometheus-client", "python3-systemd",
+         "python3-uvloop"],
         proof="none of its modules; of the program that they start: "
         + proof_line(sources.proofs.is_program_proved, sources),
         made_of={f"share/host/{name}": data for name, data in modules.items()})

@@ -15,6 +15,8 @@ pub enum CommandName {
     Registers,
     /// `kcv`
     Kcv,
+    /// `lmk`
+    Lmk,
     /// `mac`
     Mac,
     /// `data`

@@ -4,3 +4,4 @@ mod numbers
 mod accepted
 mod calm_stores
 mod way_out
+mod way_in

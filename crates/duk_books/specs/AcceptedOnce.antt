@@ -5,8 +5,8 @@ use Rattle.duk_frame.specs.declared.code.Code.{Code}
 use Rattle.duk_host.specs.Lifetime.{AcceptsNumber}
 use Rattle.duk_journal.specs.Groups.{Entries}
 use Rattle.duk_journal.specs.Standing.{UseNewNumbers, payment_entry}
-use Rattle.duk_line.specs.Judged.{TellsNumber, TellsReversal}
-use Rattle.duk_line.specs.Judgement.{reversal_entry}
+use Rattle.duk_journal_host.specs.Judged.{TellsNumber, TellsReversal}
+use Rattle.duk_journal_host.specs.Judgement.{reversal_entry}
 use Rattle.duk_reversal.specs.Numbers.{Numbers}
 use Rattle.duk_reversal.specs.declared.state.ReversalState.{ReversalState}
 use Rattle.duk_tree.specs.Serial.{Serial}

@@ -2,7 +2,7 @@
 use Rattle.std.specs.Prelude.{◌≡◌, ◌≢◌, ◌⊎◌, ℕ, List, Option, Some, AllPairs, Contains}
 use Rattle.duk_journal.specs.Groups.{Entries}
 use Rattle.duk_journal.specs.Standing.{StandsWith}
-use Rattle.duk_line.specs.Host.{JudgesBy}
+use Rattle.duk_journal_host.specs.Host.{JudgesBy}
 use Rattle.duk_store.specs.Cell.{Kept}
 use Rattle.duk_till.specs.Till.{IsAtRest, TillOf}
 use Rattle.duk_till.specs.declared.last.Last.{Last}

@@ -1,8 +1,8 @@
 -- The store of an end is armed: this project's own.
 use Rattle.std.specs.Prelude.{◌≡◌, ℕ}
 use Rattle.duk_journal.specs.Groups.{Entries}
-use Rattle.duk_line.specs.Host.{HostOf, JudgesBy}
-use Rattle.duk_line.specs.Restart.{PreservesEnds}
+use Rattle.duk_journal_host.specs.Host.{HostOf, JudgesBy}
+use Rattle.duk_journal_host.specs.Restart.{PreservesEnds}
 use Rattle.duk_store.specs.StoreState.{StaysButCalm}
 use Rattle.duk_till.specs.Lifetime.{ArmBook, ArmTerminal, IsCalled}
 use Rattle.duk_till.specs.Till.{TillOf}

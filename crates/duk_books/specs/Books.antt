@@ -3,7 +3,7 @@ use Rattle.std.specs.Prelude.{◌≡◌, ◌+◌, ◌⊎◌, ◌<◌, ℕ, List,
 use Rattle.arrayvec.specs.ArrayVec.{ArrayVec}
 use Rattle.duk_host.specs.Judgement.{Decision}
 use Rattle.duk_journal.specs.Journal.{JournalMeaning}
-use Rattle.duk_line.specs.Host.{HostMeaning, HostOf, host_meaning_of}
+use Rattle.duk_journal_host.specs.Host.{HostMeaning, HostOf, host_meaning_of}
 use Rattle.duk_store.specs.Cell.{CellMeaning}
 use Rattle.duk_till.specs.Till.{TillOf}
 use Rattle.duk_books.specs.declared.outcome.Outcome.{Outcome}

@@ -1,6 +1,6 @@
 -- Ends over which nothing happened yet: this project's own.
 use Rattle.std.specs.Prelude.{◌≡◌, ℕ, List, [], None, All}
-use Rattle.duk_line.specs.Host.{HostOf}
+use Rattle.duk_journal_host.specs.Host.{HostOf}
 use Rattle.duk_store.specs.StoreState.{StoreState, FindsOnly}
 use Rattle.duk_term.specs.declared.state.State.TheVariants as terminal
 use Rattle.duk_till.specs.Till.{TillOf}

@@ -30,4 +30,5 @@ pub mod Told
 pub mod Calm
 pub mod StolenTill
 pub mod WayOut
+pub mod WayIn
 pub mod inner

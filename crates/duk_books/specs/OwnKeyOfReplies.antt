@@ -5,8 +5,8 @@ use Rattle.duk_frame.specs.Answer.{IsReply}
 use Rattle.duk_frame.specs.declared.code.Code.{Code}
 use Rattle.duk_host.specs.Judgement.{IsReplyWith}
 use Rattle.duk_hsm.specs.Keys.{HsmKeys}
-use Rattle.duk_line.specs.Judged.{TellsReversal}
-use Rattle.duk_line.specs.Judgement.{IsReversalReplyWith}
+use Rattle.duk_journal_host.specs.Judged.{TellsReversal}
+use Rattle.duk_journal_host.specs.Judgement.{IsReversalReplyWith}
 use Rattle.duk_reversal.specs.Numbers.{Numbers}
 use Rattle.duk_reversal.specs.declared.state.ReversalState.{ReversalState}
 use Rattle.duk_tree.specs.Serial.{Serial}

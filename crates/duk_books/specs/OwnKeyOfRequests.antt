@@ -7,7 +7,7 @@ use Rattle.duk_frame.specs.declared.request.Request.{Request}
 use Rattle.duk_host.specs.Judgement.{IsAuthentic}
 use Rattle.duk_hsm.specs.Commands.{IsPinOf}
 use Rattle.duk_hsm.specs.Keys.{HsmKeys}
-use Rattle.duk_line.specs.Judgement.{IsAuthenticReversal}
+use Rattle.duk_journal_host.specs.Judgement.{IsAuthenticReversal}
 use Rattle.duk_reversal.specs.Authentic.{reversal_under}
 use Rattle.duk_reversal.specs.Reversal.{IsReversal}
 use Rattle.duk_reversal.specs.declared.reversal.Reversal as reversal_frame

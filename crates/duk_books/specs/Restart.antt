@@ -2,7 +2,7 @@
 use Rattle.std.specs.Prelude.{◌≡◌, ◌≢◌, ◌⊎◌, ℕ, Ok, Err}
 use Rattle.duk_host.specs.declared.fault.HostFault.{HostFault}
 use Rattle.duk_host.specs.declared.fault.HostFault.TheVariants.{NoMemory}
-use Rattle.duk_line.specs.Restart.{HostRestartNoMemory, HostRestartRefused, IsHostRestarted}
+use Rattle.duk_journal_host.specs.Restart.{HostRestartNoMemory, HostRestartRefused, IsHostRestarted}
 use Rattle.duk_term.specs.Terminal.{next_of}
 use Rattle.duk_store.specs.Cell.{CellMeaning}
 use Rattle.duk_till.specs.Lifetime.{IsCalled, Restart}
@@ -66,7 +66,7 @@ RestartsHost m old (outcome.HostKeeps kept) new = IsHostReopened m old kept new
 RestartsHost m old (outcome.HostFaulted why) new = HostReopenFaulted m old why new
 RestartsHost m old _ new = ⊥
 
--- the host's restart was refused memory: the host is stopped, and its journal may be restarted
+-- the host's restart was refused memory: the host and its journal are stopped
 pub record IsHostLeft {C B J I : Type 0} (m : Meanings C B J I) (old new : BooksOf C B J I)
     : Type 0 where
   pub host : HostRestartNoMemory m.host.journal old.host new.host

@@ -3,7 +3,7 @@ use Rattle.std.specs.Prelude.{◌≡◌, ◌≢◌, ◌⊎◌, ◌+◌, ◌++◌
 use Rattle.duk_frame.specs.Answer.{IsRefusal, IsReply}
 use Rattle.duk_host.specs.declared.fault.HostFault.{HostFault}
 use Rattle.duk_host.specs.declared.fault.HostFault.TheVariants.{NoMemory}
-use Rattle.duk_line.specs.Group.{AnswersFirst, AnswersFrames, GroupRefused}
+use Rattle.duk_journal_host.specs.Group.{AnswersFirst, AnswersFrames, GroupRefused}
 use Rattle.duk_reversal.specs.Reply.{IsReversalReply}
 use Rattle.duk_reversal.specs.declared.reply.ReversalReply.{ReversalReply}
 use Rattle.duk_books.specs.Books.{BooksOf, Frame, HasNone, IsAt, Meanings}

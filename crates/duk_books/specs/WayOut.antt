@@ -5,8 +5,9 @@
 -- reversal is the next frame that is sent, and its answer is the next answer.
 --
 -- A till that begins a purchase has two more numbers, since `begin` keeps the last two for reversals;
--- and the host keeps a sixteenth of its journal for reversals. So a number and a record are left until
--- reversals alone have used what is kept for them.
+-- and the host keeps a sixteenth of its journal for reversals, at least a record of a journal of more
+-- than 16. So a number, and of such a journal a record, are left until reversals alone have used what
+-- is kept for them.
 use Rattle.std.specs.Prelude.{◌≡◌, ◌≢◌, ◌<◌, ◌+◌, ◌∷◌, [], ℕ, List, Some, length}
 use Rattle.duk_store.specs.StoreState.{FindsWithin}
 use Rattle.duk_store.specs.declared.fault.StoreFault.TheVariants.{Worn}

@@ -2,6 +2,7 @@
 //! that was new once and then moved on by events alone.
 
 ghost use Rattle.std.specs.Prelude.{◌≡◌, ℕ, All, List, Some};
+ghost use Rattle.duk_frame.specs.declared.code.Code.{Code};
 ghost use Rattle.duk_hsm.specs.Commands.{IsIssued};
 ghost use Rattle.duk_hsm.specs.Keys.{HsmKeys};
 ghost use Rattle.duk_journal.specs.DiskJournal.{DiskJournalOf, disk_journal_meaning};
@@ -10,9 +11,11 @@ ghost use Rattle.duk_store.specs.SlotCell.{SlotCellOf, slot_cell_meaning};
 ghost use Rattle.duk_tdes.specs.Tdes.{IsTdesKey};
 ghost use Rattle.duk_term.specs.Body.{set_of_body};
 ghost use Rattle.duk_term.specs.Loading.{WrapsInitialKey};
+ghost use Rattle.duk_term.specs.declared.purchase.Purchase.{Purchase};
 ghost use Rattle.duk_term.specs.declared.state.Pending.{Pending};
 ghost use Rattle.duk_term.specs.declared.state.State.{State};
 ghost use Rattle.duk_term.specs.declared.state.State.TheVariants.{Loaded};
+ghost use Rattle.duk_till.specs.History.{payment_of};
 ghost use Rattle.duk_tree.specs.Serial.{Serial};
 ghost use Rattle.duk_books.specs.AcceptedOnce.{AcceptedOnce, HaveOneReply, KeepsAccepted};
 ghost use Rattle.duk_books.specs.Agree.{BooksAgree};
@@ -34,6 +37,7 @@ ghost use Rattle.duk_books.specs.Sent.{SentByOwners};
 ghost use Rattle.duk_books.specs.StolenTill.{HasImage, HasMemory, ShowsRegisters, StandAlike, TerminalsStandAlike, WaitsWithItsReplyKey};
 ghost use Rattle.duk_books.specs.Told.{HasWhatWasTold};
 ghost use Rattle.duk_books.specs.Totals.{TotalsAgree};
+ghost use Rattle.duk_books.specs.WayIn.{IsOverAt, IsPaymentRun, KeepsPayment, OthersStay, sales_with, told_with};
 ghost use Rattle.duk_books.specs.WayOut.{HasWayOut, IsAtRestAt, IsOpenAt, IsUndoneAt, OpenNumbersAreUsed, ReportsNoWear, way_out_of};
 ghost use Rattle.duk_books.specs.declared.event.End.{End};
 ghost use Rattle.duk_books.specs.declared.event.Event.{Event};
@@ -55,8 +59,8 @@ use duk_store::{Cell, Disk, SlotCell};
 ///
 /// The host keeps nothing that no till sent: each payment was asked for by a request of that number
 /// and amount, and each reversal by a reversal of that number, which names the one that is reversed.
-/// And a payment comes to the merchants' book exactly where an outcome tells its till that it is
-/// approved.
+/// Nothing of the merchants' book is lost. The payments that outcomes tell their tills as approved stand
+/// there, with the amount where the outcome has one, and nothing else comes to it.
 pub fn agreement<C: Cell, B: Cell, J: Journal, I: Issuer>()
     ensures agree { let m = meanings_of C.meaning B.meaning J.meaning I.decides in
         (books : BooksOf C B J I) → Reached m books → BooksAgree m books }
@@ -79,8 +83,8 @@ pub fn agreement<C: Cell, B: Cell, J: Journal, I: Issuer>()
     duk_frame::laws::payments();
     duk_reversal::laws::one_reading();
     duk_reversal::laws::apart_from_payments();
-    duk_line::laws::new_numbers();
-    duk_line::laws::one_reply();
+    duk_journal_host::laws::new_numbers();
+    duk_journal_host::laws::one_reply();
 }
 
 /// So it is where all stand on disks: of each till both cells, and of the host its journal.
@@ -242,8 +246,8 @@ pub fn accepted_once<C: Cell, B: Cell, J: Journal, I: Issuer>()
 {
     duk_frame::laws::one_reading();
     duk_frame::laws::payments();
-    duk_line::laws::new_numbers();
-    duk_line::laws::one_reply();
+    duk_journal_host::laws::new_numbers();
+    duk_journal_host::laws::one_reply();
 }
 
 /// Each reply to a payment or to a reversal, given for the first time or again, is made under the
@@ -255,8 +259,8 @@ pub fn own_key_of_replies<C: Cell, B: Cell, J: Journal, I: Issuer>()
 {
     duk_frame::laws::one_reading();
     duk_frame::laws::payments();
-    duk_line::laws::new_numbers();
-    duk_line::laws::one_reply();
+    duk_journal_host::laws::new_numbers();
+    duk_journal_host::laws::one_reply();
 }
 
 /// A running host refuses no request and no reversal that was sent but because its number is used or
@@ -273,8 +277,8 @@ pub fn refusals<C: Cell, B: Cell, J: Journal, I: Issuer>()
     duk_reversal::laws::one_reading();
     duk_reversal::laws::apart_from_payments();
     duk_reversal::laws::authentic();
-    duk_line::laws::new_numbers();
-    duk_line::laws::one_reply();
+    duk_journal_host::laws::new_numbers();
+    duk_journal_host::laws::one_reply();
 }
 
 /// A purchase is complete or undone only by the host's reply to the number for which its till's
@@ -297,8 +301,8 @@ pub fn completed_by_host<C: Cell, B: Cell, J: Journal, I: Issuer>()
     duk_frame::laws::payments();
     duk_reversal::laws::one_reading();
     duk_reversal::laws::apart_from_payments();
-    duk_line::laws::new_numbers();
-    duk_line::laws::one_reply();
+    duk_journal_host::laws::new_numbers();
+    duk_journal_host::laws::one_reply();
 }
 
 /// Sound stores stay sound, and none of them is reported as damaged. A store that is calm stays so
@@ -328,8 +332,8 @@ pub fn calm_stores<C: Cell, B: Cell, J: Journal, I: Issuer>()
     duk_frame::laws::payments();
     duk_reversal::laws::one_reading();
     duk_reversal::laws::apart_from_payments();
-    duk_line::laws::new_numbers();
-    duk_line::laws::one_reply();
+    duk_journal_host::laws::new_numbers();
+    duk_journal_host::laws::one_reply();
 }
 
 /// Restarts of the host and of tills that are there bring them all up, where all stores are sound
@@ -362,18 +366,19 @@ pub fn calm_restarts<C: Cell, B: Cell, J: Journal, I: Issuer>()
     duk_frame::laws::payments();
     duk_reversal::laws::one_reading();
     duk_reversal::laws::apart_from_payments();
-    duk_line::laws::new_numbers();
-    duk_line::laws::one_reply();
+    duk_journal_host::laws::new_numbers();
+    duk_journal_host::laws::one_reply();
 }
 
-/// No till is stuck but for the causes that are named here. From all that is reached, where all stores
-/// are sound and calm, each till with a number left comes to rest by five events, where the host has
-/// room for a record, no memory is refused and no store is reported as worn: the till and the host are
-/// restarted, the till reverses, its frame goes up, and the answer comes down. A purchase that was open
-/// is then undone.
+/// Each till comes to rest. From all that is reached, where all stores are sound and calm, a till with
+/// a number left is at rest behind five events, where the host has room for a record, no memory is
+/// refused and no store is reported as worn: the till and the host are restarted, the till reverses,
+/// its frame goes up, and the answer comes down. A purchase that was open is then undone.
 ///
 /// While a purchase is open, or may be after a restart, the till's registers used its number, so that
-/// the till may reverse it.
+/// the till may reverse it: those in memory did, if the terminal runs and has any, and so did those of
+/// each image that its cell may find. Of a terminal without registers and of an empty cell this says
+/// nothing.
 pub fn way_out<C: Cell, B: Cell, J: Journal, I: Issuer>()
     ensures open_number_is_used { let m = meanings_of C.meaning B.meaning J.meaning I.decides in
         (books : BooksOf C B J I) → Reached m books → OpenNumbersAreUsed m books.tills }
@@ -402,6 +407,60 @@ pub fn way_out<C: Cell, B: Cell, J: Journal, I: Issuer>()
     duk_reversal::laws::one_reading();
     duk_reversal::laws::apart_from_payments();
     duk_reversal::laws::authentic();
-    duk_line::laws::new_numbers();
-    duk_line::laws::one_reply();
+    duk_journal_host::laws::new_numbers();
+    duk_journal_host::laws::one_reply();
+}
+
+/// From rest a payment comes through, with the issuer's code. From all that is reached, where a till is
+/// at rest and may begin, the host runs and has room for a payment, and the stores of both are calm,
+/// three events are the payment: the till begins the purchase, its request goes up, and the answer comes
+/// down. No memory is refused to them, and no store is reported as worn.
+///
+/// Then the till is told what the issuer says of the PAN, the amount and the PIN that the customer gave,
+/// and of nothing else; the host keeps the payment with that code, after all that it kept; the till is at
+/// rest, and has the purchase as approved exactly where the issuer approved it; so has the merchants'
+/// book, to which nothing else comes; and each other till is as it was.
+///
+/// That the keys of till and host belong together, and that the number is new, is no premise: it holds of
+/// all that is reached.
+pub fn way_in<C: Cell, B: Cell, J: Journal, I: Issuer>()
+    ensures told { let m = meanings_of C.meaning B.meaning J.meaning I.decides in
+        (old new : BooksOf C B J I) (t : ℕ) (purchase : Purchase) (ksn : Serial) (code : Code)
+        → (outcomes : List Outcome) → IsPaymentRun m old t purchase ksn code outcomes new
+        → outcomes ≡ told_with old t ksn code }
+    ensures at_rest { let m = meanings_of C.meaning B.meaning J.meaning I.decides in
+        (old new : BooksOf C B J I) (t : ℕ) (purchase : Purchase) (ksn : Serial) (code : Code)
+        → (outcomes : List Outcome) → IsPaymentRun m old t purchase ksn code outcomes new
+        → IsOverAt new.tills t ksn purchase.amount code }
+    ensures kept { let m = meanings_of C.meaning B.meaning J.meaning I.decides in
+        (old new : BooksOf C B J I) (t : ℕ) (purchase : Purchase) (ksn : Serial) (code : Code)
+        → (outcomes : List Outcome) → IsPaymentRun m old t purchase ksn code outcomes new
+        → KeepsPayment m old new ksn purchase.amount code }
+    ensures sold { let m = meanings_of C.meaning B.meaning J.meaning I.decides in
+        (old new : BooksOf C B J I) (t : ℕ) (purchase : Purchase) (ksn : Serial) (code : Code)
+        → (outcomes : List Outcome) → IsPaymentRun m old t purchase ksn code outcomes new
+        → new.sales ≡ sales_with old.sales t (payment_of ksn purchase.amount) code }
+    ensures others { let m = meanings_of C.meaning B.meaning J.meaning I.decides in
+        (old new : BooksOf C B J I) (t : ℕ) (purchase : Purchase) (ksn : Serial) (code : Code)
+        → (outcomes : List Outcome) → IsPaymentRun m old t purchase ksn code outcomes new
+        → OthersStay old.tills t new.tills }
+{
+    no_used_key::<C, B, J, I>();
+    duk_till::laws::one_reading();
+    duk_term::laws::requests::<C>();
+    duk_term::laws::reversals::<C>();
+    duk_term::laws::found_again();
+    duk_regs::laws::transactions();
+    duk_tree::laws::bits();
+    duk_tree::laws::keys();
+    duk_tree::laws::prefixes();
+    duk_pin::laws::eight_bytes();
+    duk_pin::laws::one_pin();
+    duk_tdes::laws::inverse();
+    duk_frame::laws::one_reading();
+    duk_frame::laws::payments();
+    duk_reversal::laws::one_reading();
+    duk_reversal::laws::apart_from_payments();
+    duk_journal_host::laws::new_numbers();
+    duk_journal_host::laws::one_reply();
 }

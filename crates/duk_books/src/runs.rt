@@ -83,8 +83,8 @@ pub fn run<const N: usize, C: Cell, B: Cell, J: Journal, I: Issuer>(
     // The host keeps nothing that no till sent.
     ensures sent { KeepsWhatWasSent
         (meanings_of C.meaning B.meaning J.meaning I.decides) books.new }
-    // A payment comes to the merchants' book exactly where an outcome tells its till that it is
-    // approved.
+    // The payments that outcomes tell their tills as approved come to the merchants' book, with the
+    // amount where the outcome has one, and nothing else does.
     ensures told { GainedMeet
         (λ outcomes. HasWhatWasTold books.old.sales outcomes books.new.sales)
         out.old.items out.new.items }

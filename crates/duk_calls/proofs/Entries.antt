@@ -2,7 +2,7 @@
 use Rattle.std.proofs.Common.{◌≡◌, ◌<◌, ◌≤◌, ◌+◌, ◌*◌, ◌++◌, ◌∷◌, ◌∙◌, ℕ, zero, suc, List, [], Option, Some, None, ap, arith, drop, get_or, get_or-set_same, inl, inr, length, length-append, length-drop, length-set, refl, replicate, set, slice_index_or, subst, sym, take}
 use borrow.Rule.Slice.PartMut.{put_mid}
 use Rattle.std.proofs.Math.Seq.{drop-append-add, drop-append_seam, take-append_seam}
-use Rattle.std.proofs.lemmas.List.{append_assoc, drop-drop, drop-set-lt, drop-take, get_or-append_right, get_or-drop, get_or-replicate, get_or_append_left, length-replicate, take-set-le, take_all}
+use Rattle.std.proofs.lemmas.List.{append_assoc, drop-append-le, drop-drop, drop-set-lt, drop-take, get_or-append_right, get_or-drop, get_or-replicate, get_or_append_left, length-replicate, length-take-le, set_split, take-append-drop, take-set-le, take_all}
 use Rattle.std.proofs.lemmas.Slice.{drop-put_mid}
 use Rattle.byteorder.specs.Endian.{big_bytes, big_number}
 use Rattle.byteorder.specs.Numbers.{big_number-reads_back}
@@ -10,9 +10,9 @@ use Rattle.duk_frame.specs.Stream.{said_length}
 use Rattle.duk_hsm.specs.Keys.{HsmKeys}
 use Rattle.duk_hsm.specs.Load.{IsBdkLoaded, IsZoneLoaded, key_set}
 use Rattle.duk_tdes.specs.Tdes.{IsTdesLength}
-use Rattle.duk_calls.specs.Modules.{AreLoaded, IsEntryLoaded, IsModule, block_in, count_in, entry_at, kind_in, lmk_alone, lmk_in, prefix_in}
+use Rattle.duk_calls.specs.Modules.{AreLoaded, IsEntryLoaded, IsModule, block_in, count_in, entry_at, entry_bytes, image_with, kind_in, lmk_alone, lmk_in, new_image, prefix_in}
 use Rattle.duk_calls.specs.Answer.{with_front}
-use Rattle.duk_calls.specs.inner.Modules.{IsAppended, entry_bytes, new_image}
+use Rattle.duk_calls.specs.inner.Modules.{IsAppended}
 use Rattle.duk_calls.proofs.Parts.{length-written, part_before, part_within}
 
 -- the length of the key block
@@ -144,6 +144,20 @@ same_from xs ys same =
     ∙ ap (take (slice_index_or ys 4681 0)) behind
     ∙ sym (drop-take 4682 (slice_index_or ys 4681 0) ys)
 
+-- an image with so many entries counted, and one more
+abbrev counted_in : List ℕ → ℕ → List ℕ
+counted_in written count = take 4680 written ++ (count + 1) ∷ drop 4681 written
+
+-- what an entry covers the front of stays behind it, in its own place and further behind
+behind_entry : (entry bytes : List ℕ) → length entry ≤ 520 → 520 ≤ length bytes
+    → with_front entry (take 520 bytes) ++ drop 520 bytes ≡ with_front entry bytes
+behind_entry entry bytes fits long =
+    let size = length entry in
+    append_assoc entry (drop size (take 520 bytes)) (drop 520 bytes)
+    ∙ ap (λ rest. entry ++ rest)
+    (sym (drop-append-le size (take 520 bytes) (drop 520 bytes) (omega (arith, fits, length-take-le 520 bytes long)))
+    ∙ ap (drop size) (take-append-drop 520 bytes))
+
 -- an entry that is written behind the others, and counted
 pub appended : (entry image part : List ℕ) (count k : ℕ) → length image ≡ 4706 → count < 9 → count ≡ count_in image → k ≡ 520 → length part ≡ 520
     → part ≡ with_front entry (entry_at image count) → IsAppended entry image (set (put_mid (520 * count) k image part) 4680 (count + 1))
@@ -151,6 +165,17 @@ appended entry image part count k size few counted wide long written =
     let put = put_mid (520 * count) k image part in
     let new = set put 4680 (count + 1) in
     let put_long : length put ≡ 4706 = length-written (520 * count) k image part (omega (arith, long, wide)) (omega (arith, few, size, wide)) ∙ size in
+    let behind : List ℕ = drop (520 * count) image in
+    let behind_long : 520 ≤ length behind = omega (arith, few, size, length-drop (520 * count) image) in
+    let slot : List ℕ = take 520 behind in
+    let slot_long : length slot ≡ 520 = length-take-le 520 behind behind_long in
+    let fits : length entry ≤ 520 =
+    omega (arith, long, ap length written, length-append entry (drop (length entry) slot), length-drop (length entry) slot, slot_long) in
+    let put_is : put ≡ take (520 * count) image ++ with_front entry behind =
+    ap (λ rest. take (520 * count) image ++ rest)
+    (ap (λ part. part ++ drop k behind) written
+    ∙ ap (λ n. with_front entry slot ++ drop n behind) wide
+    ∙ behind_entry entry behind fits behind_long) in
     record {
       length_is = length-set put 4680 (count + 1) ∙ put_long;
       count_is = get_or-set_same put 4680 (count + 1) 0 (omega (arith, put_long)) ∙ ap (λ n. n + 1) counted;
@@ -166,6 +191,8 @@ appended entry image part count k size few counted wide long written =
           ∙ part_within 520 (520 * count) 0 (520 * count) k image part (omega arith) (omega (arith, long)) (omega (arith, few, size))
           ∙ take_all 520 part (omega (arith, long))
           ∙ written);
+      image_is = subst (λ n. new ≡ counted_in (take (520 * n) image ++ with_front entry (drop (520 * n) image)) n) counted
+          (set_split put 4680 (count + 1) (omega (arith, put_long)) ∙ ap (λ written. counted_in written count) put_is);
     }
   where
     -- a part before the count stays

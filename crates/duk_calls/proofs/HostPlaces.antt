@@ -7,7 +7,7 @@ use Rattle.std.proofs.lemmas.Slice.Eq.{bytes_eq-Decides}
 use Rattle.duk_host.specs.Table.{card_of}
 use Rattle.duk_hsm.specs.Commands.{HasTransactionKey}
 use Rattle.duk_hsm.specs.Keys.{HsmKeys, key_set_of}
-use Rattle.duk_line.specs.Candidate.{ArePaired}
+use Rattle.duk_journal_host.specs.Candidate.{ArePaired}
 use Rattle.duk_tree.specs.Derivation.{derived_key_of}
 use Rattle.duk_tree.specs.Path.{IsUsable}
 use Rattle.duk_tree.specs.Serial.{Serial, prefix_of}

@@ -8,17 +8,17 @@ use Rattle.duk_host.specs.Judgement.{Decision}
 use Rattle.duk_host.specs.Table.{table_decision}
 use Rattle.duk_hsm.specs.Keys.{HsmKeys}
 use Rattle.duk_hsm.specs.declared.fault.HsmFault.{HsmFault}
-use Rattle.duk_hsm.specs.Commands.{NoTransactionKey}
-use Rattle.duk_line.specs.Candidate.{IsJudgedTo}
-use Rattle.duk_line.specs.Steps.{IsAnswerOf, number_in}
-use Rattle.duk_line.specs.declared.candidate.Candidate.{Candidate}
-use Rattle.duk_line.specs.declared.candidate.Candidate.TheVariants as candidate
-use Rattle.duk_line.specs.declared.candidate.Judgement.{Judgement}
-use Rattle.duk_line.specs.declared.candidate.Judgement.TheVariants as judgement
-use Rattle.duk_line.specs.declared.settlement.Settled.{Settled}
-use Rattle.duk_line.specs.declared.settlement.Settled.TheVariants as settled
-use Rattle.duk_line.specs.declared.settlement.Settlement.{Settlement}
-use Rattle.duk_line.specs.declared.settlement.Settlement.TheVariants.{Full, Kept, KnownAgain, Used}
+use Rattle.duk_hsm.specs.Commands.{HasTransactionKey, NoTransactionKey}
+use Rattle.duk_journal_host.specs.Candidate.{IsJudgedTo}
+use Rattle.duk_journal_host.specs.Steps.{IsAnswerOf, number_in}
+use Rattle.duk_journal_host.specs.declared.candidate.Candidate.{Candidate}
+use Rattle.duk_journal_host.specs.declared.candidate.Candidate.TheVariants as candidate
+use Rattle.duk_journal_host.specs.declared.candidate.Judgement.{Judgement}
+use Rattle.duk_journal_host.specs.declared.candidate.Judgement.TheVariants as judgement
+use Rattle.duk_journal_host.specs.declared.settlement.Settled.{Settled}
+use Rattle.duk_journal_host.specs.declared.settlement.Settled.TheVariants as settled
+use Rattle.duk_journal_host.specs.declared.settlement.Settlement.{Settlement}
+use Rattle.duk_journal_host.specs.declared.settlement.Settlement.TheVariants.{Full, Kept, KnownAgain, Used}
 use Rattle.duk_pin.specs.Pan.{IsPan}
 use Rattle.duk_pin.specs.Pin.{IsPin}
 use Rattle.duk_pin.specs.declared.card.Card.{Card}
@@ -176,11 +176,12 @@ SaysSettled said (settled.Reversal reversal settlement) =
 abbrev pub SaysNothing : List ℕ → Type 0
 SaysNothing said = (settled : Settled) → ¬ SaysSettled said settled
 
--- what was settled has this answer: a frame, which begins with a zero; or the number of the fault for
--- which its key serial number has no transaction key
+-- what was settled has this answer: where its key serial number has a transaction key, a frame, which
+-- begins with a zero; and else the number of the fault for which it has none
 abbrev pub HasAnswer : HsmKeys → Settled → List ℕ → Type 0
 HasAnswer keys settled answer =
-    ((frame : List ℕ) × IsAnswerOf keys settled frame × (answer ≡ padded frame))
+    (HasTransactionKey keys (number_in settled) × (frame : List ℕ)
+    × IsAnswerOf keys settled frame × (answer ≡ padded frame))
     ⊎ ((why : HsmFault) × NoTransactionKey keys (number_in settled) why
     × (answer ≡ padded (fault_number (fault_of_hsm why) ∷ [])))
 

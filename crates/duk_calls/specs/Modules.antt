@@ -1,13 +1,14 @@
 -- What the calls over security modules answer. A module is bytes of a form of this project's own: its
 -- local master key, and the key blocks under it (ANSI X9.143) in the order in which they were loaded.
-use Rattle.std.specs.Prelude.{◌≡◌, ◌⊎◌, ◌≤◌, ◌+◌, ℕ, zero, suc, List, [], ◌∷◌, None, drop, length, slice_index_or, take}
+use Rattle.std.specs.Prelude.{◌≡◌, ◌⊎◌, ◌≤◌, ◌+◌, ◌*◌, ◌++◌, ℕ, zero, suc, List, [], ◌∷◌, None, drop, length, replicate, slice_index_or, take}
+use Rattle.byteorder.specs.Endian.{big_bytes}
 use Rattle.duk_frame.specs.Stream.{said_length}
 use Rattle.duk_hsm.specs.Keys.{HsmKeys}
 use Rattle.duk_hsm.specs.Load.{IsBdkLoaded, IsZoneLoaded, LoadBdkRefused, LoadZoneRefused}
 use Rattle.duk_hsm.specs.declared.fault.HsmFault.{HsmFault}
 use Rattle.duk_hsm.specs.declared.fault.HsmFault.TheVariants as hsm
 use Rattle.duk_tdes.specs.Tdes.{IsTdesLength}
-use Rattle.duk_calls.specs.Answer.{Answer, Ends, EndsIfFit, HaveLengths, HaveRoom, part_at}
+use Rattle.duk_calls.specs.Answer.{Answer, Ends, EndsIfFit, HaveLengths, HaveRoom, part_at, with_front}
 use Rattle.duk_calls.specs.declared.fault.Fault.{Fault}
 use Rattle.duk_calls.specs.declared.fault.Fault.TheVariants as fault
 
@@ -66,9 +67,15 @@ IsNoModule image = (keys : HsmKeys) → ¬ IsModule image keys
 abbrev pub FitNewModule : List ℕ → List ℕ → Type 0
 FitNewModule lmk image = IsTdesLength (length lmk) × HaveRoom (image ∷ []) (4706 ∷ [])
 
+-- the image of a module that has its local master key alone: zeros, but for that key and its length
+abbrev pub new_image : List ℕ → List ℕ
+new_image lmk =
+    replicate 4681 0 ++ length lmk ∷ lmk ++ drop (length lmk) (replicate 24 0)
+
 -- in front stands a module with this local master key alone; the bytes behind stay as they were
 pub record HoldsNewModule (lmk old new : List ℕ) : Type 0 where
   pub is_module : IsModule (take 4706 new) (lmk_alone lmk)
+  pub image_is : take 4706 new ≡ new_image lmk
   pub behind : drop 4706 new ≡ drop 4706 old
 
 abbrev pub ModuleNewAnswers : List ℕ → List ℕ → List ℕ → Answer → Type 0
@@ -88,13 +95,27 @@ fault_of_hsm hsm.BadCounter = fault.NotUsable
 fault_of_hsm hsm.BadMac = fault.BadMac
 fault_of_hsm hsm.BadPinBlock = fault.NotAPinBlock
 
--- the module's keys were those before, and are those that loading another key makes of them
-pub record HoldsLoaded (Loads : HsmKeys → HsmKeys → Type 0) (old new : List ℕ) : Type 0 where
-  pub before : HsmKeys
-  pub after : HsmKeys
-  pub was_module : IsModule old before
-  pub is_module : IsModule new after
-  pub loads : Loads before after
+-- an entry, as far as its key block
+abbrev pub entry_bytes : ℕ → List ℕ → List ℕ → List ℕ
+entry_bytes kind prefix block = big_bytes 2 (length block) ++ kind ∷ prefix ++ block
+
+-- an image with this entry behind those that it had, and counted; no other byte changes
+abbrev pub image_with : List ℕ → List ℕ → List ℕ
+image_with entry image =
+    let at = 520 * count_in image in
+    let written = take at image ++ with_front entry (drop at image) in
+    take 4680 written ++ (count_in image + 1) ∷ drop 4681 written
+
+-- the module's keys were those before, and are those that loading another key makes of them; its
+-- image has that key's entry more, and nothing else: no key in the clear
+pub record HoldsLoaded (Loads : HsmKeys → HsmKeys → Type 0) (entry old new : List ℕ) : Type 0
+  where
+    pub before : HsmKeys
+    pub after : HsmKeys
+    pub was_module : IsModule old before
+    pub is_module : IsModule new after
+    pub loads : Loads before after
+    pub image_is : new ≡ image_with entry old
 
 -- the module has these keys, and they are the reason for this fault
 pub record IsReasonIn (Refuses : HsmKeys → HsmFault → Type 0) (image : List ℕ) (why : Fault)
@@ -116,11 +137,13 @@ IsLoadRefused Fit Refuses image why =
 abbrev pub ModuleLoadBdkAnswers : List ℕ → List ℕ → List ℕ → List ℕ → Answer → Type 0
 ModuleLoadBdkAnswers prefix block old new =
     let Fit = HaveLengths (old ∷ prefix ∷ []) (4706 ∷ 5 ∷ []) in
-    Ends (Fit × HoldsLoaded (λ before after. IsBdkLoaded before prefix block after) old new)
+    Ends (Fit × HoldsLoaded (λ before after. IsBdkLoaded before prefix block after)
+    (entry_bytes 0 prefix block) old new)
     (IsLoadRefused Fit (λ keys. LoadBdkRefused keys prefix block) old) (new ≡ old)
 
 abbrev pub ModuleLoadZoneAnswers : List ℕ → List ℕ → List ℕ → Answer → Type 0
 ModuleLoadZoneAnswers block old new =
     let Fit = HaveLengths (old ∷ []) (4706 ∷ []) in
-    Ends (Fit × HoldsLoaded (λ before after. IsZoneLoaded before block after) old new)
+    Ends (Fit × HoldsLoaded (λ before after. IsZoneLoaded before block after)
+    (entry_bytes 1 (replicate 5 0) block) old new)
     (IsLoadRefused Fit (λ keys. LoadZoneRefused keys block) old) (new ≡ old)

@@ -2,10 +2,10 @@
 
 ghost use Rattle.std.specs.Prelude.{◌≡◌, ◌<◌, ◌≤◌, ◌/◌, ◌%◌, ℕ, [], ◌∷◌, MatchOption, drop, length, slice_index_or};
 ghost use Rattle.duk_frame.specs.declared.code.Code.{Code as CodeValue};
-ghost use Rattle.duk_line.specs.Candidate.{IsAnswered};
-ghost use Rattle.duk_line.specs.Steps.{number_in};
-ghost use Rattle.duk_line.specs.declared.settlement.Settled.{Settled as SettledValue};
-ghost use Rattle.duk_line.specs.declared.settlement.Settlement.{Settlement as SettlementValue};
+ghost use Rattle.duk_journal_host.specs.Candidate.{IsAnswered};
+ghost use Rattle.duk_journal_host.specs.Steps.{number_in};
+ghost use Rattle.duk_journal_host.specs.declared.settlement.Settled.{Settled as SettledValue};
+ghost use Rattle.duk_journal_host.specs.declared.settlement.Settlement.{Settlement as SettlementValue};
 ghost use Rattle.duk_reversal.specs.declared.state.ReversalState.{ReversalState as StateValue};
 ghost use Rattle.duk_tdes.specs.KeyBytes.{bytes_of};
 ghost use Rattle.duk_tdes.specs.Tdes.{IsTdesLength};
@@ -25,7 +25,7 @@ use byteorder::{BigEndian, ByteOrder};
 use duk_frame::{Code, Frame};
 use duk_group::WIDTH;
 use duk_hsm::Hsm;
-use duk_line::{Purchase, Settled, Settlement, answer_together};
+use duk_journal_host::{Purchase, Settled, Settlement, answer_together};
 use duk_reversal::{Reversal, ReversalState};
 use duk_tdes::{Key, KeyBytes, array_of};
 use duk_tree::{Ksn, usable};

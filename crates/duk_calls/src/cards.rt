@@ -100,13 +100,36 @@ fn code_of(card: &[u8], pin: &Pin, amount: u32) -> Code
     requires { length card.now ≡ 37 }
     ensures { result ≡ card_code (card_in card.now) pin.now amount }
 {
-    if pin_in(card) != pin.digits().as_bytes() {
+    if !same_digits(pin_in(card), pin.digits().as_bytes()) {
         Code::WrongPin
-    } else if amount > BigEndian::read_u32(&card[LIMIT_AT..]) {
+    } else if amount > limit_in(card) {
         Code::OverLimit
     } else {
         Code::Approved
     }
+}
+
+/// The amount up to which a card is approved.
+fn limit_in(card: &[u8]) -> u32
+    requires { length card.now ≡ 37 }
+    ensures { result ≡ (card_in card.now).limit }
+{
+    BigEndian::read_u32(&card[LIMIT_AT..])
+}
+
+/// Whether two PINs are the same. Of two with as many digits all are looked at, so that the time does
+/// not tell where they differ.
+fn same_digits(one: &[u8], other: &[u8]) -> bool
+    ensures { IsTrue result ↔ (one.now ≡ other.now) }
+{
+    if one.len() != other.len() {
+        return false;
+    }
+    let mut differ = false;
+    for i in 0..one.len() {
+        differ |= one[i] != other[i];
+    }
+    !differ
 }
 
 /// Whether each place has a card.

@@ -20,7 +20,7 @@ use byteorder::{BigEndian, ByteOrder};
 use duk_frame::Frame;
 use duk_group::WIDTH;
 use duk_hsm::Hsm;
-use duk_line::{Candidate, Judgement, judge_together};
+use duk_journal_host::{Candidate, Judgement, judge_together};
 use duk_tdes::{Key, KeyBytes};
 
 /// The bytes in which a judgement, a settlement and an answer stand.

@@ -5,8 +5,8 @@ ghost use Rattle.std.specs.Prelude.{◌≡◌, ◌<◌, ◌≤◌, ◌+◌, ◌+
 ghost use Rattle.duk_hsm.specs.Load.{IsBdkLoaded, IsZoneLoaded, LoadBdkRefused, LoadZoneRefused};
 ghost use Rattle.duk_tdes.specs.KeyBytes.{bytes_of};
 ghost use Rattle.duk_tdes.specs.Tdes.{IsTdesLength};
-ghost use Rattle.duk_calls.specs.Modules.{ModuleLoadBdkAnswers, ModuleLoadZoneAnswers, ModuleNewAnswers, count_in, lmk_in};
-ghost use Rattle.duk_calls.specs.inner.Modules.{IsAppended, MayBeLoaded, MayNotBeLoaded, entry_bytes, new_image};
+ghost use Rattle.duk_calls.specs.Modules.{ModuleLoadBdkAnswers, ModuleLoadZoneAnswers, ModuleNewAnswers, count_in, entry_bytes, lmk_in, new_image};
+ghost use Rattle.duk_calls.specs.inner.Modules.{IsAppended, MayBeLoaded, MayNotBeLoaded};
 
 use crate::arguments::{tdes_key, write_front};
 use crate::fault::Fault;

@@ -2,8 +2,7 @@
 use Rattle.std.proofs.Common.{◌≡◌, ◌≢◌, ◌+◌, ◌<◌, ◌≤◌, ℕ, List, [], ◌∷◌, ◌++◌, Option, Some, None, length, map, take, get_or, ap, ap₂, sym, subst, ◌∙◌, arith, append-nil, take_all}
 use Rattle.std.proofs.lemmas.Grind.{flat_map-append}
 use Rattle.std.proofs.lemmas.List.{get_or-map, get_or-take, length-map, length-take, map-append, take_more}
-use Rattle.duk_commands.specs.CheckValues.{HaveOneLength, Write, lines_of}
-use Rattle.duk_commands.specs.inner.CheckValues.{IsOfOtherLength, IsSumOf}
+use Rattle.duk_commands.specs.CheckValues.{HaveOneLength, IsOfOtherLength, IsSumOf, Write, lines_of}
 use Rattle.duk_tdes.specs.KeyBytes.{bytes_of}
 use Rattle.duk_tdes.specs.KeyText.{tdes_key_of_text}
 use Rattle.duk_tdes.specs.declared.key.KeyBytes.{KeyBytes}

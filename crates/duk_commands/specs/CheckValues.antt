@@ -1,6 +1,6 @@
 -- What `kcv` makes of its arguments (this project's own, over the check values of
 -- ANSI X9.24-1:2017 annex A).
-use Rattle.std.specs.Prelude.{◌≡◌, ℕ, Bool, true, false, List, [], ◌∷◌, ◌++◌, codes, length, map, fold, flat_map, All, Some}
+use Rattle.std.specs.Prelude.{◌≡◌, ◌≢◌, ◌<◌, ℕ, Bool, true, false, List, [], ◌∷◌, ◌++◌, codes, length, map, fold, flat_map, All, Option, Some, None}
 use Rattle.duk_commands.specs.Answer.{Command, command_of}
 use Rattle.duk_commands.specs.Lines.{named_line}
 use Rattle.duk_commands.specs.WeakKeys.{weak_line}
@@ -39,6 +39,17 @@ HaveOneLength keys =
 abbrev pub combined : List KeyBytes → List ℕ
 combined [] = []
 combined (first ∷ rest) = fold (λ key component. xor_bytes key (bytes_of component)) (bytes_of first) rest
+
+-- the sum of components of one length, where there is a component
+abbrev pub IsSumOf : List KeyBytes → Option KeyBytes → Type 0
+IsSumOf keys None = keys ≡ []
+IsSumOf keys (Some sum) = (0 < length keys) × (bytes_of sum ≡ combined keys)
+    × All (λ key. length (bytes_of key) ≡ length (bytes_of sum)) keys
+
+-- a component has another length than the sum
+abbrev pub IsOfOtherLength : Option KeyBytes → KeyBytes → Type 0
+IsOfOtherLength None component = ⊥
+IsOfOtherLength (Some sum) component = length (bytes_of sum) ≢ length (bytes_of component)
 
 -- the line of the combined key, where it is to be shown
 abbrev pub shown_line : Bool → List ℕ → List ℕ

@@ -1,6 +1,6 @@
 -- Weak keys of TDES (NIST SP 800-67 Rev. 2 section 3.3.2), parity apart. The names are this
 -- project's own.
-use Rattle.std.specs.Prelude.{◌/◌, ◌&&◌, ◌||◌, ℕ, Bool, List, [], ◌∷◌, Option, Some, None, codes, map, replicate, if◌then◌else◌}
+use Rattle.std.specs.Prelude.{◌/◌, ◌&&◌, ◌||◌, ℕ, Bool, List, [], ◌∷◌, Option, Some, None, codes, is_some, map, replicate, if◌then◌else◌}
 use Rattle.std.specs.Int.{w64, to_be_bytes}
 use Rattle.std.specs.List.{list_any}
 use Rattle.std.specs.Str.{bytes_eq}
@@ -59,6 +59,10 @@ abbrev pub weakness : DesKeys → Option (List ℕ)
 weakness keys = if are_zeros keys then Some (codes "zeros")
     else (if is_single keys then Some (codes "halves")
     else (if has_weak keys then Some (codes "DES") else None))
+
+-- a key of TDES is weak
+abbrev pub is_weak_key : List ℕ → Bool
+is_weak_key key = is_some (weakness (des_keys key))
 
 -- the line of a word that says why a key is weak
 abbrev pub line_of_weakness : Option (List ℕ) → List ℕ

@@ -1,7 +1,6 @@
 pub mod Again
 pub mod Batch
 pub mod CheckValue
-pub mod CheckValues
 pub mod Find
 pub mod Frames
 pub mod Group

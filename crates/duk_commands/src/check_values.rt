@@ -2,8 +2,7 @@
 
 ghost use Rattle.std.specs.Prelude.{◌≡◌, ◌≢◌, ◌<◌, ◌≤◌, ◌+◌, ◌++◌, ◌∷◌, [], true, false, List, Some, None, IfErr, IfNone, IfOk, IfSome, MatchOption, map, length};
 ghost use Rattle.arrayvec.specs.ArrayVec.{array_vec_len};
-ghost use Rattle.duk_commands.specs.CheckValues.{AreAccepted, IsComponentsText, IsKeysText, IsValuesRefused, IsValuesText, component_values, key_values, shown_line};
-ghost use Rattle.duk_commands.specs.inner.CheckValues.{IsOfOtherLength, IsSumOf};
+ghost use Rattle.duk_commands.specs.CheckValues.{AreAccepted, IsComponentsText, IsKeysText, IsOfOtherLength, IsSumOf, IsValuesRefused, IsValuesText, component_values, key_values, shown_line};
 ghost use Rattle.duk_mac.specs.CheckValue.{check_value_of, cmac_check_value_of};
 ghost use Rattle.duk_tdes.specs.Key.{xor_bytes};
 ghost use Rattle.duk_tdes.specs.KeyBytes.{bytes_of};
@@ -65,7 +64,7 @@ fn component_lines(texts: &[&str], show: bool) -> Option<Lines>
     let mut sum = None;
     for text in texts {
         let component = KeyBytes::parse(text)?;
-        sum = Some(add(sum, &component)?);
+        sum = Some(add_component(sum, &component)?);
         push_component(&mut lines, &component);
     }
     let sum = sum?;
@@ -75,7 +74,7 @@ fn component_lines(texts: &[&str], show: bool) -> Option<Lines>
 }
 
 /// The sum of components so far and one more, where it has their length.
-fn add(sum: Option<KeyBytes>, component: &KeyBytes) -> Option<KeyBytes>
+pub fn add_component(sum: Option<KeyBytes>, component: &KeyBytes) -> Option<KeyBytes>
     ensures added { IfSome result (λ new. (keys : List KeyValue) → IsSumOf keys sum
         → IsSumOf (keys ++ component.now ∷ []) (Some new)) }
     ensures none { IfNone result (IsOfOtherLength sum component.now) }

@@ -40,7 +40,7 @@ mod wrap;
 
 pub use answer::{tell, write_lines};
 pub use batch::{BatchFault, DeriveItems, Items, Kept, Refused, do_batch};
-pub use check_values::{MOST_KEYS, values_lines};
+pub use check_values::{MOST_KEYS, add_component, values_lines};
 pub use count::read_decimal;
 pub use derive::derive_command;
 pub use encipher::data_lines;
@@ -60,4 +60,5 @@ pub use reversals::reversal_lines;
 pub use sought::Clue;
 pub use unwrap::{unwrap_lines, unwrap_ready};
 pub use walk::walk_command;
+pub use weak_keys::is_weak_key;
 pub use wrap::wrap_line;

@@ -3,7 +3,7 @@
 ghost use Rattle.std.specs.Prelude.{◌≡◌, ◌+◌, ◌≤◌, ◌++◌, IfSome, length};
 ghost use Rattle.std.specs.Option.{option_copied};
 ghost use Rattle.arrayvec.specs.ArrayVec.{array_vec_len};
-ghost use Rattle.duk_commands.specs.WeakKeys.{are_zeros, des_keys, has_weak, is_equal_but_for_parity, is_single, is_weak, is_zeros, weak_line, weakness, without_parity};
+ghost use Rattle.duk_commands.specs.WeakKeys.{are_zeros, des_keys, has_weak, is_equal_but_for_parity, is_single, is_weak, is_weak_key, is_zeros, weak_line, weakness, without_parity};
 ghost use Rattle.duk_tdes.specs.KeyBytes.{bytes_of};
 
 use crate::lines::{LINES_ROOM, Lines, push_text_line};
@@ -47,6 +47,14 @@ pub(crate) fn push_weakness(lines: &mut Lines, key: &KeyBytes)
     if let Some(word) = weakness(&des_keys(key)) {
         push_text_line(lines, b"weak", word.as_bytes());
     }
+}
+
+/// Whether a key is weak: all its bits are zero, two of its keys of DES in turn are equal, or one of
+/// them is a weak or semi-weak key of DES. Parity bits do not count.
+pub fn is_weak_key(key: &KeyBytes) -> bool
+    ensures { result ≡ is_weak_key (bytes_of key.now) }
+{
+    weakness(&des_keys(key)).is_some()
 }
 
 /// The keys of DES of a key of either length. That of 16 bytes has the first again as the third.

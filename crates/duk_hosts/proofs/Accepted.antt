@@ -14,13 +14,13 @@ use Rattle.duk_reversal.specs.declared.reversal.Reversal as reversal_frame
 use Rattle.duk_reversal.specs.declared.state.ReversalState.{ReversalState}
 use Rattle.duk_reversal.specs.declared.state.ReversalState.TheVariants.{NoneStands}
 use Rattle.duk_tree.specs.Serial.{Serial}
-use Rattle.duk_line.specs.Judged.{IsReplyOf}
-use Rattle.duk_line.specs.Judgement.{line_basis, reversal_entry}
-use Rattle.duk_line.specs.Steps.{IsAnswerOf, IsAsked, IsCodeFor, IsDismissed, IsPurchase, IsReversalAsked, IsSettledBy, added_by}
-use Rattle.duk_line.specs.declared.authentic.Purchase.{Purchase}
-use Rattle.duk_line.specs.declared.settlement.Settled.{Settled}
-use Rattle.duk_line.specs.declared.settlement.Settled.TheVariants as settled
-use Rattle.duk_line.specs.declared.settlement.Settlement.TheVariants.{Full, Kept, KnownAgain, Used}
+use Rattle.duk_journal_host.specs.Judged.{IsReplyOf}
+use Rattle.duk_journal_host.specs.Judgement.{line_basis, reversal_entry}
+use Rattle.duk_journal_host.specs.Steps.{IsAnswerOf, IsAsked, IsCodeFor, IsDismissed, IsPurchase, IsReversalAsked, IsSettledBy, added_by}
+use Rattle.duk_journal_host.specs.declared.authentic.Purchase.{Purchase}
+use Rattle.duk_journal_host.specs.declared.settlement.Settled.{Settled}
+use Rattle.duk_journal_host.specs.declared.settlement.Settled.TheVariants as settled
+use Rattle.duk_journal_host.specs.declared.settlement.Settlement.TheVariants.{Full, Kept, KnownAgain, Used}
 use Rattle.duk_hosts.specs.Told.{AcceptsPayment}
 use Rattle.duk_hosts.proofs.Again.{own_used}
 use Rattle.duk_hosts.proofs.Members.{none_in, the_one, the_only}

@@ -9,15 +9,15 @@ use Rattle.duk_journal.specs.Standing.{numbers_in, payment_entry, reversed_in, u
 use Rattle.duk_journal.specs.declared.entry.Entry.{Entry}
 use Rattle.duk_reversal.specs.declared.reversal.Reversal.{Reversal}
 use Rattle.duk_tree.specs.Serial.{Serial}
-use Rattle.duk_line.specs.Judgement.{reversal_entry, room_for_payments}
-use Rattle.duk_line.specs.Steps.{added_by, number_in}
-use Rattle.duk_line.specs.declared.authentic.Purchase.{Purchase}
-use Rattle.duk_line.specs.declared.settlement.Settled.{Settled}
-use Rattle.duk_line.specs.declared.settlement.Settled.TheVariants as settled
-use Rattle.duk_line.specs.declared.settlement.Settlement.{Settlement}
-use Rattle.duk_line.specs.declared.settlement.Settlement.TheVariants.{Full, Kept, KnownAgain, Used}
-use Rattle.duk_line.specs.declared.candidate.Candidate.{Candidate}
-use Rattle.duk_line.specs.declared.candidate.Candidate.TheVariants as sent
+use Rattle.duk_journal_host.specs.Judgement.{reversal_entry, room_for_payments}
+use Rattle.duk_journal_host.specs.Steps.{added_by, number_in}
+use Rattle.duk_journal_host.specs.declared.authentic.Purchase.{Purchase}
+use Rattle.duk_journal_host.specs.declared.settlement.Settled.{Settled}
+use Rattle.duk_journal_host.specs.declared.settlement.Settled.TheVariants as settled
+use Rattle.duk_journal_host.specs.declared.settlement.Settlement.{Settlement}
+use Rattle.duk_journal_host.specs.declared.settlement.Settlement.TheVariants.{Full, Kept, KnownAgain, Used}
+use Rattle.duk_journal_host.specs.declared.candidate.Candidate.{Candidate}
+use Rattle.duk_journal_host.specs.declared.candidate.Candidate.TheVariants as sent
 use Rattle.duk_hosts.specs.Book.{AtMost, Book, Bound, IsSettledIn, NoBound, capacity_of, room_of}
 use Rattle.duk_hosts.specs.Events.{Answers, AreSettledIn, Event, Hosts, IsHistory, IsHistoryFrom, Judges, MayHappen, Outcome, Refuses, Settles, all_outcomes, entries_of, kept_after, outcomes_of}
 use Rattle.duk_hosts.specs.Told.{FindsNoRoom, HasNoRoom, IsSettledAgain}

@@ -13,22 +13,22 @@ use Rattle.duk_reversal.specs.declared.state.ReversalState.{ReversalState}
 use Rattle.duk_reversal.specs.declared.state.ReversalState.TheVariants.{NoneStands, Undone}
 use Rattle.duk_store.specs.Log.{Numbers}
 use Rattle.duk_tree.specs.Serial.{Serial}
-use Rattle.duk_line.specs.Judgement.{FindsState, reversal_entry, room_for_payments}
-use Rattle.duk_line.specs.Steps.{IsAnswerOf, IsSettlement, IsUnknown}
-use Rattle.duk_line.specs.declared.authentic.Purchase.{Purchase}
-use Rattle.duk_line.specs.declared.settlement.Settled.{Settled}
-use Rattle.duk_line.specs.declared.settlement.Settled.TheVariants as settled
-use Rattle.duk_line.specs.declared.settlement.Settlement.{Settlement}
-use Rattle.duk_line.specs.declared.settlement.Settlement.TheVariants.{Full, Kept, KnownAgain, Used}
-use Rattle.duk_line.specs.declared.candidate.Candidate.{Candidate}
-use Rattle.duk_line.specs.declared.candidate.Candidate.TheVariants as sent
+use Rattle.duk_journal_host.specs.Judgement.{FindsState, reversal_entry, room_for_payments}
+use Rattle.duk_journal_host.specs.Steps.{IsAnswerOf, IsSettlement, IsUnknown}
+use Rattle.duk_journal_host.specs.declared.authentic.Purchase.{Purchase}
+use Rattle.duk_journal_host.specs.declared.settlement.Settled.{Settled}
+use Rattle.duk_journal_host.specs.declared.settlement.Settled.TheVariants as settled
+use Rattle.duk_journal_host.specs.declared.settlement.Settlement.{Settlement}
+use Rattle.duk_journal_host.specs.declared.settlement.Settlement.TheVariants.{Full, Kept, KnownAgain, Used}
+use Rattle.duk_journal_host.specs.declared.candidate.Candidate.{Candidate}
+use Rattle.duk_journal_host.specs.declared.candidate.Candidate.TheVariants as sent
 use Rattle.duk_hosts.specs.Book.{Book, Bound, IsSettledIn, KnowsPurchase, KnowsReversal, answerable, capacity_of, room_of}
 use Rattle.duk_hosts.specs.Events.{Answers, Event, Hosts, IsHistory, IsHistoryFrom, Judged, Judges, MayHappen, Outcome, Settles, all_outcomes, kept_after}
 use Rattle.duk_hosts.proofs.Members.{first_in, front_or, later_in, none_in, the_only}
 
 -- ---- one thing or another
 
-nat_or : (one other : ℕ) → (one ≡ other) ⊎ (one ≢ other)
+pub nat_or : (one other : ℕ) → (one ≡ other) ⊎ (one ≢ other)
 nat_or zero zero = inl refl
 nat_or zero (suc other) = inr (λ same. absurd (omega (arith, same)))
 nat_or (suc one) zero = inr (λ same. absurd (omega (arith, same)))
@@ -58,7 +58,7 @@ bytes_or (one ∷ ones) (other ∷ others) = elim (nat_or one other) [
   ]
 ]
 
-number_or : (one other : Serial) → (one ≡ other) ⊎ (one ≢ other)
+pub number_or : (one other : Serial) → (one ≡ other) ⊎ (one ≢ other)
 number_or one other = elim (nat_or one.iksn other.iksn) [
   | inr differ ↦ inr (λ same. differ (ap (λ (number : Serial). number.iksn) same))
   | inl same ↦ elim (nat_or one.counter other.counter) [
@@ -212,7 +212,7 @@ settled_somehow bound entries (sent.Reversal reversal) =
 
 -- ---- one event more
 
-one_more : (hosts : Hosts) (book : Book) (before events : List Event) (event : Event) → IsHistoryFrom hosts book before events → MayHappen hosts book (before ++ events) event → IsHistoryFrom hosts book before (events ++ event ∷ [])
+pub one_more : (hosts : Hosts) (book : Book) (before events : List Event) (event : Event) → IsHistoryFrom hosts book before events → MayHappen hosts book (before ++ events) event → IsHistoryFrom hosts book before (events ++ event ∷ [])
 one_more hosts book before [] event history may = (subst (λ events. MayHappen hosts book events event) (append-nil before) may, tt)
 one_more hosts book before (first ∷ events) event history may =
     (history.0, one_more hosts book (before ++ first ∷ []) events event history.1 (subst (λ events. MayHappen hosts book events event) (sym (append_assoc before (first ∷ []) events)) may))

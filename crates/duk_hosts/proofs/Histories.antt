@@ -4,9 +4,9 @@ use Rattle.std.proofs.lemmas.List.{append-nil}
 use Rattle.std.proofs.lemmas.List.Concat.{flat_map-append}
 use Rattle.std.proofs.lemmas.List.Elements.{Contains-append_cases, Contains-append_left, Contains-append_right}
 use Rattle.duk_journal.specs.Groups.{Entries}
-use Rattle.duk_line.specs.Steps.{IsAnswerOf, IsDismissed, added_by}
-use Rattle.duk_line.specs.declared.settlement.Settled.{Settled}
-use Rattle.duk_line.specs.declared.candidate.Candidate.{Candidate}
+use Rattle.duk_journal_host.specs.Steps.{IsAnswerOf, IsDismissed, added_by}
+use Rattle.duk_journal_host.specs.declared.settlement.Settled.{Settled}
+use Rattle.duk_journal_host.specs.declared.candidate.Candidate.{Candidate}
 use Rattle.duk_hosts.specs.Book.{Book, IsSettledIn}
 use Rattle.duk_hosts.specs.Events.{Answers, AreSettledIn, Ask, Event, Hosts, IsCandidateOf, IsHistory, IsHistoryFrom, Judged, Judges, MayHappen, Outcome, Refuses, Settles, Turn, all_given, all_outcomes, entries_of, given_in, kept_after, outcomes_of, turn}
 use Rattle.duk_hosts.specs.OneHost.{InTurn, all_asks, asks_in}

@@ -8,3 +8,14 @@ pub mod Again
 pub mod Accepted
 pub mod Undone
 pub mod GoingOn
+pub mod Sent
+pub mod TillHolds
+pub mod TillSends
+pub mod TillTakes
+pub mod TillLifetime
+pub mod Origins
+pub mod Sold
+pub mod Agreement
+pub mod Sums
+pub mod Totals
+pub mod Steps

@@ -65,3 +65,10 @@ made_of f (first ∷ things) other contains = elim (front_or (f first) (map f th
 pub map_join : {A B : Type 0} (f : A → B) (things more : List A) → map f (things ++ more) ≡ map f things ++ map f more
 map_join f [] more = refl
 map_join f (first ∷ things) more = ap (λ rest. f first ∷ rest) (map_join f things more)
+
+pub map_in : {A B : Type 0} (f : A → B) (things : List A) (thing : A) → Contains things thing → Contains (map f things) (f thing)
+map_in f [] thing is_in = absurd (none_in thing is_in)
+map_in f (first ∷ things) thing is_in = elim (front_or first things thing is_in) [
+  | inl same ↦ subst (λ it. Contains (f first ∷ map f things) (f it)) (sym same) (first_in (f first) (map f things))
+  | inr later ↦ later_in (f first) (map f things) (f thing) (map_in f things thing later)
+]

@@ -4,11 +4,11 @@ use Rattle.std.proofs.lemmas.Bool.Decides.{nat_tests}
 use Rattle.duk_host.specs.Judgement.{Decision}
 use Rattle.duk_journal.specs.Groups.{Entries}
 use Rattle.duk_journal.specs.Standing.{payment_entry}
-use Rattle.duk_line.specs.Judged.{AreJudged}
-use Rattle.duk_line.specs.Judgement.{IsJudged, LineBasis, line_basis, reversal_entry, room_for_payments, with_entries}
-use Rattle.duk_line.specs.Latest.{latest_entries, most_latest}
-use Rattle.duk_line.specs.declared.settlement.Settled.{Settled}
-use Rattle.duk_line.specs.declared.settlement.Settled.TheVariants as settled
+use Rattle.duk_journal_host.specs.Judged.{AreJudged}
+use Rattle.duk_journal_host.specs.Judgement.{IsJudged, LineBasis, line_basis, reversal_entry, room_for_payments, with_entries}
+use Rattle.duk_journal_host.specs.Latest.{latest_entries, most_latest}
+use Rattle.duk_journal_host.specs.declared.settlement.Settled.{Settled}
+use Rattle.duk_journal_host.specs.declared.settlement.Settled.TheVariants as settled
 use Rattle.duk_hosts.specs.Book.{AtMost, Book, Bound, NoBound}
 use Rattle.duk_hosts.specs.Events.{Event, Hosts, IsHistory, Turn, kept_after}
 use Rattle.duk_hosts.specs.OneHost.{DidAsOne, DoesFor, InTurn, IsTurnOf}

@@ -15,16 +15,16 @@ use Rattle.duk_reversal.specs.Numbers.{Numbers}
 use Rattle.duk_reversal.specs.declared.state.ReversalState.{ReversalState}
 use Rattle.duk_tree.specs.Derivation.{derived_key_of, response_key_of}
 use Rattle.duk_tree.specs.Serial.{Serial, prefix_of}
-use Rattle.duk_line.specs.Judgement.{FindsState, IsReversalReplyWith, reversal_entry, room_for_payments}
-use Rattle.duk_line.specs.Latest.{latest_entries, most_latest}
-use Rattle.duk_line.specs.Steps.{IsAnswerBy, IsAnswerOf, IsAsked, IsPurchase, IsPurchaseKnown, IsReversalAsked, IsReversalKnown, IsSettledBy, IsSettlement}
-use Rattle.duk_line.specs.declared.authentic.Purchase.{Purchase}
-use Rattle.duk_line.specs.declared.settlement.Settled.{Settled}
-use Rattle.duk_line.specs.declared.settlement.Settled.TheVariants as settled
-use Rattle.duk_line.specs.declared.settlement.Settlement.{Settlement}
-use Rattle.duk_line.specs.declared.settlement.Settlement.TheVariants.{Full, Kept, KnownAgain, Used}
-use Rattle.duk_line.specs.declared.candidate.Candidate.{Candidate}
-use Rattle.duk_line.specs.declared.candidate.Candidate.TheVariants as sent
+use Rattle.duk_journal_host.specs.Judgement.{FindsState, IsReversalReplyWith, reversal_entry, room_for_payments}
+use Rattle.duk_journal_host.specs.Latest.{latest_entries, most_latest}
+use Rattle.duk_journal_host.specs.Steps.{IsAnswerBy, IsAnswerOf, IsAsked, IsPurchase, IsPurchaseKnown, IsReversalAsked, IsReversalKnown, IsSettledBy, IsSettlement}
+use Rattle.duk_journal_host.specs.declared.authentic.Purchase.{Purchase}
+use Rattle.duk_journal_host.specs.declared.settlement.Settled.{Settled}
+use Rattle.duk_journal_host.specs.declared.settlement.Settled.TheVariants as settled
+use Rattle.duk_journal_host.specs.declared.settlement.Settlement.{Settlement}
+use Rattle.duk_journal_host.specs.declared.settlement.Settlement.TheVariants.{Full, Kept, KnownAgain, Used}
+use Rattle.duk_journal_host.specs.declared.candidate.Candidate.{Candidate}
+use Rattle.duk_journal_host.specs.declared.candidate.Candidate.TheVariants as sent
 use Rattle.duk_hosts.specs.Book.{AtMost, Bound, IsSettledIn, IsSettledOver, KnowsPurchase, KnowsReversal, NoBound, answerable, capacity_of, room_of}
 use Rattle.duk_hosts.specs.Events.{Ask, Hosts, IsCandidateOf}
 

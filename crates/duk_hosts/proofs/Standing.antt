@@ -11,8 +11,8 @@ use Rattle.duk_journal.specs.declared.entry.Entry.{Entry}
 use Rattle.duk_reversal.specs.Numbers.{Numbers}
 use Rattle.duk_reversal.specs.declared.state.ReversalState.{ReversalState}
 use Rattle.duk_tree.specs.Serial.{Serial}
-use Rattle.duk_line.specs.Judged.{AreJudged, AreRepliesOf, AreReversalRepliesOf, IsReplyOf, IsReversalReplyOf, TellsAlike, TellsNumber}
-use Rattle.duk_line.specs.Judgement.{LineBasis, reversal_entry}
+use Rattle.duk_journal_host.specs.Judged.{AreJudged, AreRepliesOf, AreReversalRepliesOf, IsReplyOf, IsReversalReplyOf, TellsAlike, TellsNumber}
+use Rattle.duk_journal_host.specs.Judgement.{LineBasis, reversal_entry}
 use Rattle.duk_hosts.specs.Book.{Book}
 use Rattle.duk_hosts.specs.Events.{Event, Hosts, IsHistory, Turn, all_answers, all_given, entries_of, all_outcomes, given_in, kept_after}
 use Rattle.duk_hosts.specs.OneHost.{InTurn}

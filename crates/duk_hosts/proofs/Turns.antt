@@ -7,14 +7,14 @@ use Rattle.duk_hsm.specs.Keys.{HsmKeys}
 use Rattle.duk_journal.specs.Groups.{Entries}
 use Rattle.duk_journal.specs.Standing.{payment_entry}
 use Rattle.duk_journal.specs.declared.entry.Entry.{Entry}
-use Rattle.duk_line.specs.Candidate.{IsCandidate, IsItsOwnCode, IsOfCandidate}
-use Rattle.duk_line.specs.Judged.{AreJudged}
-use Rattle.duk_line.specs.Judgement.{IsJudged, LineBasis, line_basis, reversal_entry}
-use Rattle.duk_line.specs.Steps.{IsAnswerOf, IsAsked, IsCodeFor, IsDismissed, IsSettledBy, added_by}
-use Rattle.duk_line.specs.declared.settlement.Settled.{Settled}
-use Rattle.duk_line.specs.declared.settlement.Settled.TheVariants as settled
-use Rattle.duk_line.specs.declared.settlement.Settlement.TheVariants.{Full, Kept, KnownAgain, Used}
-use Rattle.duk_line.specs.declared.candidate.Candidate.{Candidate}
+use Rattle.duk_journal_host.specs.Candidate.{IsCandidate, IsItsOwnCode, IsOfCandidate}
+use Rattle.duk_journal_host.specs.Judged.{AreJudged}
+use Rattle.duk_journal_host.specs.Judgement.{IsJudged, LineBasis, line_basis, reversal_entry}
+use Rattle.duk_journal_host.specs.Steps.{IsAnswerOf, IsAsked, IsCodeFor, IsDismissed, IsSettledBy, added_by}
+use Rattle.duk_journal_host.specs.declared.settlement.Settled.{Settled}
+use Rattle.duk_journal_host.specs.declared.settlement.Settled.TheVariants as settled
+use Rattle.duk_journal_host.specs.declared.settlement.Settlement.TheVariants.{Full, Kept, KnownAgain, Used}
+use Rattle.duk_journal_host.specs.declared.candidate.Candidate.{Candidate}
 use Rattle.duk_hosts.specs.Book.{Bound, IsSettledIn, capacity_of, room_of}
 use Rattle.duk_hosts.specs.Events.{Ask, Hosts, IsCandidateOf, Turn, turn}
 use Rattle.duk_hosts.specs.OneHost.{InTurn, IsTurnOf}

@@ -8,11 +8,11 @@ use Rattle.duk_journal.specs.Groups.{Entries}
 use Rattle.duk_journal.specs.Standing.{Stands, numbers_in, reversed_in, reversed_numbers, used_by}
 use Rattle.duk_journal.specs.declared.entry.Entry.{Entry}
 use Rattle.duk_tree.specs.Serial.{Serial}
-use Rattle.duk_line.specs.Steps.{IsAnswerOf, IsAsked, IsDismissed, added_by}
-use Rattle.duk_line.specs.declared.settlement.Settled.{Settled}
-use Rattle.duk_line.specs.declared.settlement.Settled.TheVariants as settled
-use Rattle.duk_line.specs.declared.settlement.Settlement.TheVariants.{Full, Kept, KnownAgain, Used}
-use Rattle.duk_line.specs.declared.candidate.Candidate.{Candidate}
+use Rattle.duk_journal_host.specs.Steps.{IsAnswerOf, IsAsked, IsDismissed, added_by}
+use Rattle.duk_journal_host.specs.declared.settlement.Settled.{Settled}
+use Rattle.duk_journal_host.specs.declared.settlement.Settled.TheVariants as settled
+use Rattle.duk_journal_host.specs.declared.settlement.Settlement.TheVariants.{Full, Kept, KnownAgain, Used}
+use Rattle.duk_journal_host.specs.declared.candidate.Candidate.{Candidate}
 use Rattle.duk_hosts.specs.Book.{Book, Bound, IsSettledIn}
 use Rattle.duk_hosts.specs.Events.{Answers, AreSettledIn, Event, Hosts, IsCandidateOf, IsHistory, IsHistoryFrom, Judges, MayHappen, Outcome, Refuses, Settles, Turn, all_answers, all_given, all_outcomes, entries_of, given_in, kept_after, outcomes_of, turn}
 use Rattle.duk_hosts.specs.Told.{AcceptsPayment, RefusesPayment, WasAccepted}

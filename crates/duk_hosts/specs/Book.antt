@@ -5,14 +5,14 @@ use Rattle.duk_journal.specs.Groups.{Entries}
 use Rattle.duk_journal.specs.Standing.{payment_entry, reversed_numbers}
 use Rattle.duk_reversal.specs.declared.reversal.Reversal.{Reversal}
 use Rattle.duk_reversal.specs.declared.state.ReversalState.{ReversalState}
-use Rattle.duk_line.specs.Candidate.{IsItsOwnCode, IsOfCandidate}
-use Rattle.duk_line.specs.Judgement.{FindsState, reversal_entry, room_for_payments}
-use Rattle.duk_line.specs.Latest.{latest_entries}
-use Rattle.duk_line.specs.Steps.{IsSettlement}
-use Rattle.duk_line.specs.declared.authentic.Purchase.{Purchase}
-use Rattle.duk_line.specs.declared.candidate.Candidate.{Candidate}
-use Rattle.duk_line.specs.declared.settlement.Settled.{Settled}
-use Rattle.duk_line.specs.declared.settlement.Settled.TheVariants as settled
+use Rattle.duk_journal_host.specs.Candidate.{IsItsOwnCode, IsOfCandidate}
+use Rattle.duk_journal_host.specs.Judgement.{FindsState, reversal_entry, room_for_payments}
+use Rattle.duk_journal_host.specs.Latest.{latest_entries}
+use Rattle.duk_journal_host.specs.Steps.{IsSettlement}
+use Rattle.duk_journal_host.specs.declared.authentic.Purchase.{Purchase}
+use Rattle.duk_journal_host.specs.declared.candidate.Candidate.{Candidate}
+use Rattle.duk_journal_host.specs.declared.settlement.Settled.{Settled}
+use Rattle.duk_journal_host.specs.declared.settlement.Settled.TheVariants as settled
 
 -- how many entries a book may keep: so many, as a journal does, or any number, as a table of a
 -- database does

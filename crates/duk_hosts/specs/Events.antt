@@ -8,10 +8,10 @@ use Rattle.std.specs.Prelude.{◌++◌, ℕ, List, [], ◌∷◌, Contains, flat
 use Rattle.duk_host.specs.Judgement.{Decision}
 use Rattle.duk_hsm.specs.Keys.{HsmKeys}
 use Rattle.duk_journal.specs.Groups.{Entries}
-use Rattle.duk_line.specs.Candidate.{IsCandidate}
-use Rattle.duk_line.specs.Steps.{IsAnswerOf, IsDismissed, added_by}
-use Rattle.duk_line.specs.declared.candidate.Candidate.{Candidate}
-use Rattle.duk_line.specs.declared.settlement.Settled.{Settled}
+use Rattle.duk_journal_host.specs.Candidate.{IsCandidate}
+use Rattle.duk_journal_host.specs.Steps.{IsAnswerOf, IsDismissed, added_by}
+use Rattle.duk_journal_host.specs.declared.candidate.Candidate.{Candidate}
+use Rattle.duk_journal_host.specs.declared.settlement.Settled.{Settled}
 use Rattle.duk_hosts.specs.Book.{Book, Bound, IsSettledIn}
 
 -- the hosts: the keys, which all of them hold, and what the issuer of each decides. An issuer that

@@ -2,3 +2,4 @@ pub mod Book
 pub mod Events
 pub mod OneHost
 pub mod Told
+pub mod Tills

@@ -1,8 +1,8 @@
 -- What one host could have done in the place of many: this project's own.
 use Rattle.std.specs.Prelude.{◌≡◌, ◌<◌, ◌≤◌, ◌-◌, ◌*◌, ◌++◌, ℕ, List, [], ◌∷◌, Contains, flat_map, length, map}
 use Rattle.duk_journal.specs.Groups.{Entries}
-use Rattle.duk_line.specs.Judgement.{IsJudged, line_basis}
-use Rattle.duk_line.specs.Latest.{most_latest}
+use Rattle.duk_journal_host.specs.Judgement.{IsJudged, line_basis}
+use Rattle.duk_journal_host.specs.Latest.{most_latest}
 use Rattle.duk_hosts.specs.Book.{AtMost, Book, Bound, NoBound}
 use Rattle.duk_hosts.specs.Events.{Ask, Event, Hosts, Refuses, Settles, Turn, all_given, all_outcomes, entries_of}
 

@@ -1,11 +1,11 @@
 -- What a settlement says of a number: this project's own.
 use Rattle.std.specs.Prelude.{◌≡◌, ℕ, List, Contains}
 use Rattle.duk_tree.specs.Serial.{Serial}
-use Rattle.duk_line.specs.Steps.{IsAnswerOf}
-use Rattle.duk_line.specs.declared.settlement.Settled.{Settled}
-use Rattle.duk_line.specs.declared.settlement.Settled.TheVariants as settled
-use Rattle.duk_line.specs.declared.settlement.Settlement.{Settlement}
-use Rattle.duk_line.specs.declared.settlement.Settlement.TheVariants.{Full, Kept, KnownAgain, Used}
+use Rattle.duk_journal_host.specs.Steps.{IsAnswerOf}
+use Rattle.duk_journal_host.specs.declared.settlement.Settled.{Settled}
+use Rattle.duk_journal_host.specs.declared.settlement.Settled.TheVariants as settled
+use Rattle.duk_journal_host.specs.declared.settlement.Settlement.{Settlement}
+use Rattle.duk_journal_host.specs.declared.settlement.Settlement.TheVariants.{Full, Kept, KnownAgain, Used}
 use Rattle.duk_hosts.specs.Events.{Event, Hosts, Outcome, all_outcomes}
 
 -- it is settled with an outcome, now or before

@@ -4,23 +4,31 @@
 //! in any order and again; what a host judged long ago may be settled now, again, or by another host;
 //! and what was settled may be answered at any later time, more than once, or never.
 
-ghost use Rattle.std.specs.Prelude.{◌≡◌, ◌-◌, ◌++◌, [], ◌∷◌, ℕ, List, Contains, length, map};
+ghost use Rattle.std.specs.Prelude.{◌≡◌, ◌-◌, ◌++◌, [], ◌∷◌, ℕ, List, Contains, Option, length, map};
 ghost use Rattle.duk_host.specs.Judgement.{Decision};
 ghost use Rattle.duk_host.specs.Lifetime.{AcceptsAlike, AcceptsNumber};
 ghost use Rattle.duk_journal.specs.Groups.{Entries};
 ghost use Rattle.duk_journal.specs.Standing.{Stands, UseNewNumbers, reversed_numbers};
 ghost use Rattle.duk_reversal.specs.Numbers.{Numbers};
 ghost use Rattle.duk_reversal.specs.declared.state.ReversalState.{ReversalState};
+ghost use Rattle.duk_till.specs.History.{Entry};
+ghost use Rattle.duk_till.specs.Lifetime.{Call, IsLifetime};
+ghost use Rattle.duk_till.specs.Till.{IsAtRest, TillOf};
+ghost use Rattle.duk_till.specs.declared.last.Last.{Last};
+ghost use Rattle.duk_till.specs.declared.state.TillState.TheVariants.{Running};
 ghost use Rattle.duk_tree.specs.Serial.{Serial};
-ghost use Rattle.duk_line.specs.Judged.{AreJudged, AreRepliesOf, AreReversalRepliesOf, IsAsTold, TellWhatIsKept, TellsAlike, TellsNumber, TellsReversal};
-ghost use Rattle.duk_line.specs.Judgement.{line_basis};
-ghost use Rattle.duk_line.specs.Steps.{added_by, number_in};
-ghost use Rattle.duk_line.specs.declared.candidate.Candidate.{Candidate};
-ghost use Rattle.duk_line.specs.declared.settlement.Settled.{Settled};
+ghost use Rattle.duk_journal_host.specs.Judged.{AreJudged, AreRepliesOf, AreReversalRepliesOf, IsAsTold, TellWhatIsKept, TellsAlike, TellsNumber, TellsReversal};
+ghost use Rattle.duk_journal_host.specs.Judgement.{line_basis};
+ghost use Rattle.duk_journal_host.specs.Steps.{added_by, number_in};
+ghost use Rattle.duk_journal_host.specs.declared.candidate.Candidate.{Candidate};
+ghost use Rattle.duk_journal_host.specs.declared.settlement.Settled.{Settled};
 ghost use Rattle.duk_hosts.specs.Book.{Book, Bound, IsSettledIn};
-ghost use Rattle.duk_hosts.specs.Events.{Answers, Event, Hosts, IsHistory, Judged, Judges, Outcome, Settles, Turn, all_answers, all_outcomes, kept_after};
+ghost use Rattle.duk_hosts.specs.Events.{Answers, Event, Hosts, IsHistory, Judged, Judges, MayHappen, Outcome, Settles, Turn, all_answers, all_outcomes, kept_after};
 ghost use Rattle.duk_hosts.specs.OneHost.{DidAsOne, DoesFor, InTurn, IsTurnOf};
+ghost use Rattle.duk_hosts.specs.Tills.{Agrees, AgreesButOpen, PaysAt, StandsAsTold, WereGivenIn, WereSentIn};
 ghost use Rattle.duk_hosts.specs.Told.{FindsNoRoom, IsSettledAgain, RefusesPayment, WasAccepted};
+
+use duk_store::Cell;
 
 /// Whatever many hosts do is what one host could have done over a journal: it has the frames in the
 /// order in which they were refused or settled, keeps the same entries, and gives each answer that
@@ -38,7 +46,7 @@ pub fn one_host()
         (line_basis hosts.keys entries capacity (capacity - length entries) decides)
         (map (λ turn. turn.ask.frame) turns) (map (λ turn. turn.answer) turns) added }
 {
-    duk_line::laws::steps();
+    duk_journal_host::laws::steps();
 }
 
 /// Each number is used at most once by what the book keeps, where that was so at first.
@@ -46,8 +54,8 @@ pub fn at_most_once()
     ensures { (hosts : Hosts) (book : Book) (events : List Event) → IsHistory hosts book events
         → UseNewNumbers book.first → UseNewNumbers (kept_after book events) }
 {
-    duk_line::laws::steps();
-    duk_line::laws::new_numbers();
+    duk_journal_host::laws::steps();
+    duk_journal_host::laws::new_numbers();
 }
 
 /// An accepted reply of any host is the reply to an entry that the book keeps when it is given, and
@@ -58,8 +66,8 @@ pub fn kept()
         → AreRepliesOf hosts.keys (kept_after book (events ++ later)) (all_answers events)
         × AreReversalRepliesOf hosts.keys (kept_after book (events ++ later)) (all_answers events) }
 {
-    duk_line::laws::steps();
-    duk_line::laws::one_reply();
+    duk_journal_host::laws::steps();
+    duk_journal_host::laws::one_reply();
 }
 
 /// All accepted replies to one number are equal, byte for byte, whatever hosts give them and whenever;
@@ -75,7 +83,7 @@ pub fn equal_replies()
 {
     at_most_once();
     kept();
-    duk_line::laws::one_reply();
+    duk_journal_host::laws::one_reply();
 }
 
 /// Once a reversal of a number is kept, no payment of that number is accepted any more, also one that
@@ -95,8 +103,8 @@ pub fn undone()
         → (number : Serial) → Contains (reversed_numbers (kept_after book events)) number
         → ¬ Stands (kept_after book (events ++ later)) number }
 {
-    duk_line::laws::steps();
-    duk_line::laws::one_reply();
+    duk_journal_host::laws::steps();
+    duk_journal_host::laws::one_reply();
 }
 
 /// Each reversal tells what stands: that a payment is undone exactly where an approved payment of the
@@ -110,8 +118,8 @@ pub fn told()
         → IsAsTold (kept_after book (events ++ later)) numbers state }
 {
     kept();
-    duk_line::laws::steps();
-    duk_line::laws::told_what_stands();
+    duk_journal_host::laws::steps();
+    duk_journal_host::laws::told_what_stands();
 }
 
 /// What is settled again changes nothing that is kept. Once a number is settled, but for want of room,
@@ -144,5 +152,64 @@ pub fn goes_on()
     ensures somehow { (bound : Bound) (entries : Entries) (candidate : Candidate)
         → (settled : Settled) × IsSettledIn bound entries candidate settled }
 {
-    duk_line::laws::steps();
+    duk_journal_host::laws::steps();
 }
+
+/// Merchants and hosts agree. A till sends its payments and reversals to any of the hosts, over a network
+/// that loses, repeats and reorders frames. Whatever it told its merchant as approved stands in the book
+/// that the hosts share, with its amount. While it runs, nothing else stands there under its initial key
+/// serial number, but perhaps the purchase that is open; and at rest the payments that stand are those
+/// that were told, and so are the totals.
+///
+/// The till has any lifetime of calls, stops and failed stores, and the hosts have any history. The
+/// premises are that the book keeps nothing under that initial key serial number at first, that each
+/// frame under it which hosts found authentic was sent by the till, and that each frame which the till
+/// took was given by a host. Nobody else has the keys, so the MACs see to the last two; where till and
+/// hosts have different keys, the hosts find no frame of it authentic, and it takes none. No order is
+/// asked for between what happens at the till and at the hosts, and nothing of other tills: so it is of
+/// each till of a world of many.
+pub fn merchants_agree<C: Cell, J: Cell>()
+    ensures told { (hosts : Hosts) (book : Book) (events : List Event) (iksn : ℕ)
+        → (calls : List Call) (history : List Entry) (till : TillOf C J)
+        → PaysAt hosts book events iksn calls → IsLifetime C.meaning J.meaning calls history till
+        → StandsAsTold history iksn (kept_after book events) }
+    ensures but_open { (hosts : Hosts) (book : Book) (events : List Event) (iksn : ℕ)
+        → (calls : List Call) (history : List Entry) (till : TillOf C J) (last : Option Last)
+        → PaysAt hosts book events iksn calls → IsLifetime C.meaning J.meaning calls history till
+        → till.state ≡ Running last
+        → AgreesButOpen history iksn last (kept_after book events) }
+    ensures at_rest { (hosts : Hosts) (book : Book) (events : List Event) (iksn : ℕ)
+        → (calls : List Call) (history : List Entry) (till : TillOf C J)
+        → PaysAt hosts book events iksn calls → IsLifetime C.meaning J.meaning calls history till
+        → IsAtRest till.state → Agrees history iksn (kept_after book events) }
+{
+    at_most_once();
+    kept();
+    duk_journal_host::laws::steps();
+    duk_journal::laws::totals();
+    duk_frame::laws::one_reading();
+    duk_frame::laws::payments();
+    duk_reversal::laws::one_reading();
+    duk_reversal::laws::apart_from_payments();
+    duk_term::laws::requests::<C>();
+    duk_term::laws::reversals::<C>();
+    duk_till::laws::one_reading();
+    duk_till::laws::lifetimes::<C, J>();
+}
+
+/// The premises of `merchants_agree` hold at first, of a new book and a till that made no call yet; and
+/// they hold again after each event at the hosts where no frame under the initial key serial number is
+/// found authentic that the till did not send, and after each call of the till that takes no frame but one
+/// which a host gave. So they hold in every world of tills and hosts that is made up step by step of
+/// these.
+pub fn tills_go_on()
+    ensures first { (hosts : Hosts) (bound : Bound) (iksn : ℕ)
+        → PaysAt hosts (record { first = []; bound = bound }) [] iksn [] }
+    ensures event { (hosts : Hosts) (book : Book) (events : List Event) (event : Event) (iksn : ℕ)
+        → (calls : List Call) → PaysAt hosts book events iksn calls
+        → MayHappen hosts book events event → WereSentIn calls iksn (event ∷ [])
+        → PaysAt hosts book (events ++ event ∷ []) iksn calls }
+    ensures call { (hosts : Hosts) (book : Book) (events : List Event) (iksn : ℕ) (call : Call)
+        → (calls : List Call) → PaysAt hosts book events iksn calls
+        → WereGivenIn events (call ∷ []) → PaysAt hosts book events iksn (call ∷ calls) }
+{}

@@ -1,8 +1,8 @@
 -- Check sums of lists that differ in one entry.
-use Rattle.std.proofs.Common.{◌≡◌, ◌∙◌, ◌+◌, ◌*◌, ◌/◌, ◌%◌, ◌^◌, ◌<◌, ◌≤◌, ◌++◌, ◌∷◌, [], ℕ, List, ap, arith, get_or, inl, inr, length, refl, subst, sym, take}
+use Rattle.std.proofs.Common.{◌≡◌, ◌∙◌, ◌+◌, ◌*◌, ◌/◌, ◌%◌, ◌^◌, ◌<◌, ◌≤◌, ◌++◌, ◌∷◌, [], ℕ, List, ap, arith, get_or, inl, inr, length, refl, subst, sym}
 use Rattle.std.proofs.lemmas.Bool.{cases_lt}
-use Rattle.std.proofs.lemmas.List.{get_or_past, take_more}
-use Rattle.std.proofs.lemmas.List.Elements.{All-head, All-tail}
+use Rattle.std.proofs.lemmas.List.{get_or_past}
+use Rattle.std.proofs.lemmas.List.Elements.{All-tail}
 use Rattle.std.proofs.lemmas.List.Sums.{fold-append}
 use Rattle.std.proofs.lemmas.Nat.{div-mul-add}
 use Rattle.std.specs.List.{All, fold}
@@ -18,7 +18,7 @@ use Rattle.duk_journal.specs.declared.check_sum.CheckSum.{CheckSum}
 use Rattle.duk_journal.specs.declared.entry.Decided.{Decided}
 use Rattle.duk_journal.specs.declared.entry.Decided.TheVariants.{Payment, Reversal}
 use Rattle.duk_journal.specs.declared.entry.Entry.{Entry}
-use Rattle.duk_journal.proofs.KeptEntries.{one_decided}
+use Rattle.duk_journal.proofs.SaidEntries.{one_decided}
 
 -- ---- one sum
 
@@ -71,13 +71,6 @@ same_before a b (entry ∷ entries) a_fits b_fits same =
     (same_sum a.numbers b.numbers (big_number 10 (serial_bytes entry.number)) a_fits.numbers b_fits.numbers (ap (λ (sum : CheckSum). sum.numbers) next))
     (same_sum a.decisions b.decisions (decision_word entry.decided) a_fits.decisions b_fits.decisions (ap (λ (sum : CheckSum). sum.decisions) next))
     (same_sum a.macs b.macs (big_number 8 entry.mac) a_fits.macs b_fits.macs (ap (λ (sum : CheckSum). sum.macs) next))
-
--- the sums of the first entries, and of one more
-pub one_more : (sum : CheckSum) (entries : Entries) (count : ℕ) (entry : Entry) → count < length entries → get_or entries count entry ≡ entry
-    → with_entry (fold with_entry sum (take count entries)) entry ≡ fold with_entry sum (take (count + 1) entries)
-one_more sum entries count entry within is =
-    sym (fold-append with_entry sum (take count entries) (entry ∷ []))
-    ∙ ap (λ (front : Entries). fold with_entry sum front) (sym (take_more entries count entry within ∙ ap (λ (entry : Entry). take count entries ++ entry ∷ []) is))
 
 -- ---- the words of an entry
 

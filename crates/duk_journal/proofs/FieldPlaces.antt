@@ -1,12 +1,34 @@
 -- Where the fields of a record's contents stand.
-use Rattle.std.proofs.Common.{◌≡◌, ℕ, Option, Some, List, ◌∷◌, ◌++◌, length, take, drop, replicate, get_or, sym, ap, ◌∙◌}
-use Rattle.std.proofs.lemmas.List.{drop-drop, drop_at, get_or-drop, take_at}
+use Rattle.std.proofs.Common.{◌≡◌, ℕ, Option, Some, List, ◌∷◌, ◌++◌, length, length-append, take, drop, replicate, get_or, sym, ap, ◌∙◌, arith}
+use Rattle.std.proofs.lemmas.List.{drop-drop, drop_at, get_or-drop, length-replicate, take_at}
 use Rattle.byteorder.specs.Endian.{big_bytes, big_number}
 use Rattle.byteorder.specs.Numbers.{big_number-reads_back, length-bytes_high_first}
 use Rattle.duk_tree.specs.Serial.{Serial, serial_bytes}
 use Rattle.duk_journal.specs.Entry.{figure_of, kind_of, outcome_of}
-use Rattle.duk_journal.specs.RecordFormat.{AreContents, contents_of}
+use Rattle.duk_journal.specs.RecordFormat.{SaysEntry, contents_of}
+use Rattle.duk_journal.specs.declared.entry.Entry.{Entry}
 use Rattle.duk_journal.specs.declared.record_format.Contents.{Contents}
+
+-- the length of contents
+pub contents_length : (followers : ℕ) (entry : Entry) → ((serial : Serial) → length (serial_bytes serial) ≡ 10) → length entry.mac ≡ 8 → length (contents_of followers entry) ≡ 31
+unfolding contents_of
+contents_length followers entry ten eight =
+    let last : List ℕ = entry.mac ++ replicate 5 0 in
+    let figure : List ℕ = big_bytes 4 (figure_of entry.decided) in
+    let outcome : ℕ = outcome_of entry.decided in
+    let behind : List ℕ = figure ++ (outcome ∷ last) in
+    omega (
+      arith,
+      length-append (big_bytes 2 followers) (serial_bytes entry.number ++ behind),
+      length-bytes_high_first 2 followers,
+      length-append (serial_bytes entry.number) behind,
+      ten entry.number,
+      length-append figure (outcome ∷ last),
+      length-bytes_high_first 4 (figure_of entry.decided),
+      length-append entry.mac (replicate 5 0),
+      eight,
+      length-replicate {A = ℕ} 5 0,
+    )
 
 -- what stands where contents have their fields
 pub record FieldPlaces (bytes : List ℕ) (contents : Contents) : Type 0 where
@@ -17,7 +39,7 @@ pub record FieldPlaces (bytes : List ℕ) (contents : Contents) : Type 0 where
   pub outcome_is : get_or bytes 17 0 ≡ outcome_of contents.entry.decided
   pub mac_is : take 8 (drop 18 bytes) ≡ contents.entry.mac
 
-pub field_places : (bytes : List ℕ) (contents : Contents) → ((serial : Serial) → length (serial_bytes serial) ≡ 10) → AreContents bytes contents → FieldPlaces bytes contents
+pub field_places : (bytes : List ℕ) (contents : Contents) → ((serial : Serial) → length (serial_bytes serial) ≡ 10) → SaysEntry contents.followers contents.entry bytes → FieldPlaces bytes contents
 unfolding contents_of
 field_places bytes contents ten are =
     let entry = contents.entry in
@@ -34,7 +56,7 @@ field_places bytes contents ten are =
     let five : drop 18 bytes ≡ last = sym (drop-drop 1 17 bytes) ∙ ap (drop 1) four in
     record {
       kind_is = ap (λ (l : List ℕ). get_or l 0 0) are.written;
-      followers_is = ap (big_number 2) one ∙ big_number-reads_back 2 contents.followers (number ++ (figure ++ (outcome ∷ last))) are.followers_fit;
+      followers_is = ap (big_number 2) one ∙ big_number-reads_back 2 contents.followers (number ++ (figure ++ (outcome ∷ last))) (omega (arith, are.followers_fit));
       number_is = ap (take 10) two ∙ take_at number (figure ++ (outcome ∷ last)) 10 (ten entry.number);
       figure_is = ap (big_number 4) three ∙ big_number-reads_back 4 (figure_of entry.decided) (outcome ∷ last) are.entry_is.figure_fits;
       outcome_is = sym (get_or-drop 17 bytes 0 0) ∙ ap (λ (l : List ℕ). get_or l 0 0) four;

@@ -1,11 +1,5 @@
 mod CheckSums
-mod EntriesRead
 mod FieldPlaces
-mod GroupWritten
-mod JournalOnDisk
-mod KeptEntries
 mod MemoryJournalMeaning
-mod RecordsRead
+mod SaidEntries
 mod StandingPayments
-mod StepsInTurn
-mod WrittenBytes

@@ -1,34 +1,21 @@
 -- The disk of a journal: a format of this project's own. It is a positive number of records of 32
 -- bytes: a gate, and 31 bytes of contents.
-use Rattle.std.specs.Prelude.{◌≡◌, ◌≤◌, ◌<◌, ◌*◌, ◌^◌, ◌++◌, ◌∷◌, ℕ, List, take, drop, replicate, slice_index}
+use Rattle.std.specs.Prelude.{◌≡◌, ◌≤◌, ◌+◌, ◌++◌, ◌∷◌, ℕ, List, replicate}
 use Rattle.byteorder.specs.Endian.{big_bytes}
+use Rattle.duk_store.specs.Format.{FormatMeaning}
+use Rattle.duk_store.specs.Records as records
+use Rattle.duk_tree.specs.Path.{IsUsable}
 use Rattle.duk_tree.specs.Serial.{serial_bytes}
-use Rattle.duk_journal.specs.Entry.{IsEntry, figure_of, kind_of, outcome_of}
+use Rattle.duk_journal.specs.Entry.{IsEntry, MayStandUnder, figure_of, kind_of, outcome_of}
 use Rattle.duk_journal.specs.declared.entry.Entry.{Entry}
-use Rattle.duk_journal.specs.declared.record_format.Contents.{Contents}
 
 -- the bytes of a record
 abbrev pub record_length : ℕ
 record_length = 32
 
--- the sizes of a journal's disk
-abbrev pub IsJournalSize : ℕ → Type 0
-IsJournalSize size = (records : ℕ) × (1 ≤ records) × (size ≡ record_length * records)
-
--- the record at a place, counted in records
-abbrev pub record_at : ℕ → List ℕ → List ℕ
-record_at place bytes = take record_length (drop (record_length * place) bytes)
-
--- the gate of a record, and its contents
-abbrev pub gate_of : List ℕ → ℕ
-gate_of record_bytes = slice_index record_bytes 0
-
-abbrev pub after_gate : List ℕ → List ℕ
-after_gate record_bytes = drop 1 record_bytes
-
--- a record is open where its gate is 1, and closed where it is anything else
-abbrev pub IsOpen : List ℕ → Type 0
-IsOpen record_bytes = gate_of record_bytes ≡ 1
+-- the most entries of a group
+abbrev pub most_of_group : ℕ
+most_of_group = 4096
 
 -- the contents of a record: the kind; how many records of its group follow, in two bytes; the key
 -- serial number in ten; the figure, which is an amount or the counter of a reversed number, in four;
@@ -39,8 +26,42 @@ contents_of followers entry =
     ++ (big_bytes 4 (figure_of entry.decided)
     ++ (outcome_of entry.decided ∷ (entry.mac ++ replicate 5 0)))))
 
--- the bytes are those of these contents
-pub record AreContents (bytes : List ℕ) (contents : Contents) : Type 0 where
-  pub entry_is : IsEntry contents.entry
-  pub followers_fit : contents.followers < 2 ^ 16
-  pub written : bytes ≡ contents_of contents.followers contents.entry
+-- the bytes are the contents with this entry, after which so many of its group follow
+pub record SaysEntry (followers : ℕ) (entry : Entry) (contents : List ℕ) : Type 0 where
+  pub entry_is : IsEntry entry
+  pub followers_fit : followers + 1 ≤ most_of_group
+  pub written : contents ≡ contents_of followers entry
+
+-- an entry that may be kept: its number is usable, and what was decided may stand under it
+pub record MayBeKept (entry : Entry) : Type 0 where
+  pub usable : IsUsable entry.number.counter
+  pub stands : MayStandUnder entry.number entry.decided
+
+-- what the format means. Its disks have no header, and contents are the same at every place.
+abbrev pub entry_format : FormatMeaning Entry
+entry_format = record {
+  record_length = record_length;
+  headers = 0;
+  is_header = λ record_bytes. ⊥;
+  most = most_of_group;
+  may_stand = MayBeKept;
+  says = λ place followers entry contents. SaysEntry followers entry contents;
+}
+
+-- the sizes of a journal's disk
+abbrev pub IsJournalSize : ℕ → Type 0
+IsJournalSize size = records.IsRecordsSize entry_format size
+
+-- the record at a place, counted in records; its gate, and its contents
+abbrev pub record_at : ℕ → List ℕ → List ℕ
+record_at place bytes = records.record_at record_length place bytes
+
+abbrev pub gate_of : List ℕ → ℕ
+gate_of record_bytes = records.gate_of record_bytes
+
+abbrev pub after_gate : List ℕ → List ℕ
+after_gate record_bytes = records.after_gate record_bytes
+
+-- a record is open where its gate is 1, and closed where it is anything else
+abbrev pub IsOpen : List ℕ → Type 0
+IsOpen record_bytes = records.IsOpen record_bytes

@@ -1,6 +1,3 @@
-pub mod DiskJournal
 pub mod Entry
 pub mod Groups
-pub mod GroupSteps
 pub mod MemoryJournal
-pub mod Reading

@@ -1,7 +1,6 @@
 //! Check sums of entries, by which a list that is read a second time shows that it is the same.
 
 ghost use Rattle.std.specs.Prelude.{◌≡◌, []};
-ghost use Rattle.std.specs.List.{fold};
 ghost use Rattle.duk_tree.specs.Serial.{serial_bytes};
 ghost use Rattle.byteorder.specs.Endian.{big_number};
 ghost use Rattle.duk_journal.specs.CheckSum.{check_sum_of, decision_word, folded, with_entry};
@@ -38,17 +37,8 @@ impl CheckSum {
         }
     }
 
-    /// Takes in the entries that follow.
-    pub fn take_in(&mut self, entries: &[Entry])
-        ensures { self.new ≡ fold with_entry self.old entries.now }
-    {
-        for entry in entries {
-            self.take_in_one(entry);
-        }
-    }
-
     /// Takes in the next entry.
-    fn take_in_one(&mut self, entry: &Entry)
+    pub fn take_in(&mut self, entry: &Entry)
         ensures { self.new ≡ with_entry self.old entry.now }
     {
         self.numbers = folded(self.numbers, number_word(entry.number));

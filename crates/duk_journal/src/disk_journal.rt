@@ -1,48 +1,42 @@
-//! A journal of entries on a disk, and the device calls of an append.
+//! A journal of entries on a disk.
 
 ghost use Rattle.std.specs.Prelude.{◌≡◌, ◌+◌, ◌*◌, ◌≤◌, [], true, length, IfErr, IfOk, OnOk};
+ghost use Rattle.duk_store.specs.DiskRecords.{are_running, count_in};
+ghost use Rattle.duk_store.specs.Listed.{GroupAppendFailed, IsGroupAppended, ListRestartFailed, ListRestarted};
 ghost use Rattle.duk_store.specs.Disk.{LeavesReads, LeavesWithin, StaysArmed};
-ghost use Rattle.duk_store.specs.Restart.{RestartFailed};
 ghost use Rattle.duk_store.specs.StoreState.{IsNew, KeepsNothing};
-ghost use Rattle.duk_journal.specs.DiskJournal.{IsBlankJournalDisk, IsZeroJournalDisk, count_in, disk_journal_meaning, is_journal_running, new_disk_journal};
+ghost use Rattle.duk_journal.specs.DiskJournal.{IsBlankJournalDisk, IsZeroJournalDisk, disk_journal_meaning, new_disk_journal};
 ghost use Rattle.duk_journal.specs.Groups.{IsGroup};
-ghost use Rattle.duk_journal.specs.Journal.{AreEntriesRead, EntriesUnread, GroupAppendFailed, IsGroupAppended, JournalRestarted};
 
 use crate::entry::Entry;
-use crate::group_steps::write_group;
 use crate::journal::Journal;
-use crate::journal_steps::{PIECE_LENGTH, bring_up, read_kept};
-use crate::record_format::RECORD_LENGTH;
-use duk_store::{Disk, StoreFault};
+use crate::record_format::EntryFormat;
+use duk_store::{Disk, Records, StoreFault, Visitor};
 use std::alloc::Global;
 use std::marker::Model;
 
-/// A journal on a disk of records of 32 bytes. Groups of them stand one after the other in front,
-/// and all others are closed.
-///
-/// A group is written into closed records, and its first record is opened once they are synced
-/// (`append` has the device calls). So a stop leaves the list without the group or with all of it.
-/// A restart reads pieces of at most 64 KiB. Only `new` takes memory, that of a piece.
+/// The bytes of a piece: what a restart reads of the disk at once, at most.
+const PIECE_LENGTH: usize = 65_536;
+
+/// A journal on a disk of records of 32 bytes, without a header. `Records` has the device calls of a
+/// restart, which reads pieces of at most 64 KiB, and of an append. Only `new` takes memory, that of
+/// a piece.
 #[derive(Drop)]
 pub struct DiskJournal<D: Disk> {
-    disk: D,
-    /// How many entries are kept, while the journal runs.
-    kept: Option<u64>,
-    /// What a piece of the disk is read into.
+    records: Records<D, EntryFormat>,
+    /// What a piece of the disk is read into, and contents are written from.
     piece: Vec<u8>,
 }
 
 impl<D: Disk> Model for DiskJournal<D> {
     ghost use Rattle.std.specs.Prelude.{◌≡◌, length};
     ghost use Rattle.duk_journal.specs.DiskJournal.{DiskJournalOf};
-    ghost use Rattle.duk_journal.specs.inner.DiskJournal.{KnowsJournal};
 
     ghost Value = { DiskJournalOf D };
 
-    ghost view = { λ journal. record { disk = journal.disk; kept = journal.kept } };
+    ghost view = { λ journal. journal.records };
 
-    ghost invariant = { λ journal. KnowsJournal (D.meaning.state_of journal.disk) journal.kept
-        × (length journal.piece.items ≡ 65536) };
+    ghost invariant = { λ journal. length journal.piece.items ≡ 65536 };
 }
 
 impl<D: Disk> DiskJournal<D> {
@@ -58,13 +52,9 @@ impl<D: Disk> DiskJournal<D> {
             → KeepsNothing ((disk_journal_meaning D.meaning).state_of journal) []) }
         ensures refused { IfErr result (λ fault. fault ≡ StoreFault.NoMemory) }
     {
-        duk_tree::laws::serials();
         let piece = vec![in alloc; 0; PIECE_LENGTH]?;
-        Ok(DiskJournal {
-            disk,
-            kept: None,
-            piece,
-        })
+        let records = Records::new(disk, EntryFormat {});
+        Ok(DiskJournal { records, piece })
     }
 
     /// The disk, as it stands. That of a running journal has room for the entries that are kept,
@@ -72,90 +62,40 @@ impl<D: Disk> DiskJournal<D> {
     pub fn into_disk(self) -> D
         ensures disk { result ≡ self.disk }
         ensures inside { 32 * count_in self.kept ≤ (D.meaning.state_of result).size }
-        ensures one { is_journal_running self.kept ≡ true → (D.meaning.state_of result).honest
+        ensures one { are_running self.kept ≡ true → (D.meaning.state_of result).honest
             → LeavesReads (D.meaning.state_of result) }
     {
-        self.disk
+        self.records.into_disk()
     }
 }
 
 impl<D: Disk> Journal for DiskJournal<D> {
     ghost meaning = { disk_journal_meaning D.meaning };
 
-    fn restart(&mut self) -> Result<u64, StoreFault>
-        ensures found { IfOk result
-            (JournalRestarted (disk_journal_meaning D.meaning) self.old self.new) }
+    fn restart<V: Visitor<Entry>>(&mut self, visitor: &mut V) -> Result<u64, StoreFault>
+        ensures found { IfOk result (ListRestarted (disk_journal_meaning D.meaning) V.takes
+            self.old self.new visitor.old visitor.new) }
         ensures counted { IfOk result
             (λ found. (disk_journal_meaning D.meaning).count self.new ≡ found) }
         ensures capacity { (disk_journal_meaning D.meaning).capacity self.new
             ≡ (disk_journal_meaning D.meaning).capacity self.old }
-        ensures failed { IfErr result
-            (RestartFailed ((disk_journal_meaning D.meaning).state_of self.old)
-            ((disk_journal_meaning D.meaning).state_of self.new)) }
+        ensures failed { IfErr result (ListRestartFailed (disk_journal_meaning D.meaning)
+            V.takes V.refuses self.old self.new visitor.old) }
         ensures disarmed { (disk_journal_meaning D.meaning).disarmed self.new }
         ensures restored { LeavesWithin (D.meaning.state_of self.old.disk)
             (D.meaning.state_of self.new.disk) }
     {
-        duk_tree::laws::serials();
-        self.kept = None;
-        let count = bring_up(&mut self.disk, &mut self.piece[..])?;
-        self.kept = Some(count);
-        Ok(count)
+        self.records.restart(&mut self.piece[..], visitor)
     }
 
     fn len(&self) -> u64 {
-        match self.kept {
-            None => 0,
-            Some(count) => count,
-        }
+        self.records.len()
     }
 
     fn room(&self) -> u64 {
-        match self.kept {
-            None => 0,
-            Some(count) => self.disk.size() / RECORD_LENGTH as u64 - count,
-        }
+        self.records.room()
     }
 
-    fn read(&mut self, place: u64, entries: &mut [Entry]) -> Result<(), StoreFault>
-        requires most { length entries.old ≤ 2048 }
-        requires inside { ((disk_journal_meaning D.meaning).state_of self.old).running ≡ true
-            → place + length entries.old ≤ (disk_journal_meaning D.meaning).count self.old }
-        ensures read { OnOk result
-            (AreEntriesRead (disk_journal_meaning D.meaning) self.old self.new place entries.new) }
-        ensures length { length entries.new ≡ length entries.old }
-        ensures counted { OnOk result ((disk_journal_meaning D.meaning).count self.new
-            ≡ (disk_journal_meaning D.meaning).count self.old) }
-        ensures capacity { (disk_journal_meaning D.meaning).capacity self.new
-            ≡ (disk_journal_meaning D.meaning).capacity self.old }
-        ensures disarmed { (disk_journal_meaning D.meaning).disarmed self.old
-            → (disk_journal_meaning D.meaning).disarmed self.new }
-        ensures failed { IfErr result
-            (EntriesUnread (disk_journal_meaning D.meaning) self.old self.new) }
-        ensures arming { StaysArmed (D.meaning.state_of self.old.disk)
-            (D.meaning.state_of self.new.disk) }
-    {
-        let Some(_count) = self.kept else {
-            return Err(StoreFault::Stopped);
-        };
-        duk_tree::laws::serials();
-        match read_kept(&mut self.disk, place, &mut self.piece[..], entries) {
-            Ok(()) => Ok(()),
-            Err(fault) => {
-                self.kept = None;
-                Err(fault)
-            }
-        }
-    }
-
-    /// An append makes a device call for each record of the group, and three more. Each is followed
-    /// by what a stop before the next one leaves of these records; all others stay as they were.
-    ///
-    /// 1. Write the contents of each record: all are closed, with any bytes after their gates. 2.
-    /// Sync: they are closed, with the new entries. 3. Write 1 into the gate of the first: it has
-    /// any gate. 4. Sync: it is open, and the group with it.
-    ///
-    /// A restart finds the list without the group until that gate is 1, and then with all of it.
     fn append(&mut self, group: &[Entry]) -> Result<(), StoreFault>
         requires group { IsGroup group.now }
         requires room { ((disk_journal_meaning D.meaning).state_of self.old).running ≡ true
@@ -172,17 +112,10 @@ impl<D: Disk> Journal for DiskJournal<D> {
         ensures arming { StaysArmed (D.meaning.state_of self.old.disk)
             (D.meaning.state_of self.new.disk) }
     {
-        let Some(count) = self.kept else {
-            return Err(StoreFault::Stopped);
-        };
-        duk_tree::laws::serials();
-        self.kept = None;
-        write_group(&mut self.disk, count, group)?;
-        self.kept = Some(count + group.len() as u64);
-        Ok(())
+        self.records.append(&mut self.piece[..], group)
     }
 
     fn arm(&mut self, steps: u32) {
-        self.disk.arm(steps);
+        self.records.arm(steps);
     }
 }

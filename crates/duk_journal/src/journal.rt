@@ -1,13 +1,13 @@
 //! The trait `Journal`: where a host keeps what it decided.
 
 ghost use Rattle.std.specs.Prelude.{◌≡◌, ◌+◌, ◌≤◌, true, length, IfOk, IfErr, OnOk};
+ghost use Rattle.duk_store.specs.Listed.{GroupAppendFailed, IsGroupAppended, ListRestartFailed, ListRestarted, length_of, room_of};
 ghost use Rattle.duk_store.specs.StoreState.{StaysButCalm};
-ghost use Rattle.duk_store.specs.Restart.{RestartFailed};
 ghost use Rattle.duk_journal.specs.Groups.{IsGroup};
-ghost use Rattle.duk_journal.specs.Journal.{AreEntriesRead, EntriesUnread, GroupAppendFailed, IsGroupAppended, JournalMeaning, JournalRestarted, length_of, room_of};
+ghost use Rattle.duk_journal.specs.Journal.{JournalMeaning};
 
 use crate::entry::Entry;
-use duk_store::StoreFault;
+use duk_store::{StoreFault, Visitor};
 
 /// A list of entries, which outlives a stop. It is made stopped, and `restart` brings it up.
 pub trait Journal: Drop {
@@ -15,16 +15,18 @@ pub trait Journal: Drop {
     /// how `arm` leaves it.
     ghost meaning: { JournalMeaning Self };
 
-    /// Brings the journal up and reports how many entries it keeps. It disarms first.
+    /// Brings the journal up, gives each entry that it keeps to a visitor, in order, and reports how
+    /// many these are. It disarms first.
     ///
-    /// Refused with `Device` where a device step failed, and with `Damaged` where the medium holds
-    /// what no journal of this kind leaves. The journal is stopped then.
-    fn restart(&mut self) -> Result<u64, StoreFault>
-        ensures found { IfOk result (JournalRestarted meaning self.old self.new) }
+    /// Refused with `Device` where a device step failed, with `Damaged` where the medium holds what
+    /// no journal of this kind leaves, and as the visitor refuses. The journal is stopped then.
+    fn restart<V: Visitor<Entry>>(&mut self, visitor: &mut V) -> Result<u64, StoreFault>
+        ensures found { IfOk result
+            (ListRestarted meaning V.takes self.old self.new visitor.old visitor.new) }
         ensures counted { IfOk result (λ found. meaning.count self.new ≡ found) }
         ensures capacity { meaning.capacity self.new ≡ meaning.capacity self.old }
         ensures failed { IfErr result
-            (RestartFailed (meaning.state_of self.old) (meaning.state_of self.new)) }
+            (ListRestartFailed meaning V.takes V.refuses self.old self.new visitor.old) }
         ensures disarmed { meaning.disarmed self.new };
 
     /// How many entries the journal keeps; none while it is stopped.
@@ -34,23 +36,6 @@ pub trait Journal: Drop {
     /// For how many more it has room; none while it is stopped.
     fn room(&self) -> u64
         ensures { result ≡ room_of meaning self.now };
-
-    /// Reads the entries from a place of the list on, counted from 0, into all of `entries`, at
-    /// most 2,048. `len` is how many there are.
-    ///
-    /// Refused with `Stopped` where the journal is stopped, which changes nothing; with `Device`
-    /// where a device step failed, and with `Damaged` where the medium holds no entry there
-    /// although it did before. Both stop it.
-    fn read(&mut self, place: u64, entries: &mut [Entry]) -> Result<(), StoreFault>
-        requires most { length entries.old ≤ 2048 }
-        requires inside { (meaning.state_of self.old).running ≡ true
-            → place + length entries.old ≤ meaning.count self.old }
-        ensures read { OnOk result (AreEntriesRead meaning self.old self.new place entries.new) }
-        ensures length { length entries.new ≡ length entries.old }
-        ensures counted { OnOk result (meaning.count self.new ≡ meaning.count self.old) }
-        ensures capacity { meaning.capacity self.new ≡ meaning.capacity self.old }
-        ensures disarmed { meaning.disarmed self.old → meaning.disarmed self.new }
-        ensures failed { IfErr result (EntriesUnread meaning self.old self.new) };
 
     /// Appends entries together: one to 4,096, whose numbers are usable, and under which what was
     /// decided may stand. `room` says whether there is place for them.

@@ -11,12 +11,14 @@ ghost use Rattle.duk_journal.specs.Groups.{Entries, HasContents, KeepsEntries};
 ghost use Rattle.duk_journal.specs.Standing.{AddsAmount, StandsWith, is_reversed, reversed_numbers, standing_amount};
 ghost use Rattle.duk_journal.specs.declared.entry.Entry.{Entry};
 
+use crate::record_format::EntryFormat;
+
 /// The bytes of a journal's disk keep one list of entries at most.
 pub fn one_list()
     ensures { (bytes : List ℕ) (one two : Entries) → KeepsEntries bytes one
         → KeepsEntries bytes two → one ≡ two }
 {
-    duk_tree::laws::serials();
+    duk_store::laws::one_list(&EntryFormat {});
 }
 
 /// A record has the contents of one entry at most, and says one number of followers.
@@ -55,7 +57,7 @@ pub fn new_disk_journal()
         → IsNew ((disk_journal_meaning memory_disk_meaning).state_of
         (new_disk_journal (new_disk (32 * records)))) [] }
 {
-    duk_tree::laws::serials();
+    duk_store::laws::new_disk_records(&EntryFormat {});
 }
 
 /// The totals of entries add up the payments that stand, each with its amount, and nothing else. A

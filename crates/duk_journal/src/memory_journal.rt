@@ -1,17 +1,17 @@
 //! A journal of entries in memory.
 
-ghost use Rattle.std.specs.Prelude.{◌≡◌, ◌+◌, ◌≤◌, [], true, Ok, length, IfErr, IfOk, OnOk};
-ghost use Rattle.duk_store.specs.Restart.{RestartFailed};
+ghost use Rattle.std.specs.Prelude.{◌≡◌, ◌+◌, ◌≤◌, [], true, length, IfErr, IfOk, OnOk};
+ghost use Rattle.duk_store.specs.Listed.{GroupAppendFailed, IsGroupAppended, IsItemRefused, ListRestartFailed, ListRestarted};
+ghost use Rattle.duk_store.specs.Visitor.{TakesAll};
 ghost use Rattle.duk_store.specs.StoreState.{IsNew, StaysButCalm};
 ghost use Rattle.duk_journal.specs.Groups.{IsGroup};
-ghost use Rattle.duk_journal.specs.Journal.{AreEntriesRead, EntriesUnread, GroupAppendFailed, IsGroupAppended, JournalRestarted};
-ghost use Rattle.duk_journal.specs.inner.MemoryJournal.{IsJournalStopped};
 ghost use Rattle.duk_journal.specs.MemoryJournal.{IsMemoryGroupAppended, memory_journal_meaning, memory_journal_state, new_journal, restarted_journal};
+ghost use Rattle.duk_journal.specs.inner.MemoryJournal.{IsEntryRefused, IsJournalStopped};
 
 use crate::entry::{Decided, Entry};
 use crate::journal::Journal;
 use duk_frame::Code;
-use duk_store::StoreFault;
+use duk_store::{StoreFault, Visitor};
 use duk_tree::Ksn;
 use std::alloc::Global;
 use std::marker::Model;
@@ -87,16 +87,21 @@ impl MemJournal {
 impl Journal for MemJournal {
     ghost meaning = { memory_journal_meaning };
 
-    fn restart(&mut self) -> Result<u64, StoreFault>
-        ensures found { IfOk result (JournalRestarted memory_journal_meaning self.old self.new) }
+    /// It is refused as the visitor refuses, and not otherwise.
+    fn restart<V: Visitor<Entry>>(&mut self, visitor: &mut V) -> Result<u64, StoreFault>
+        ensures found { IfOk result (ListRestarted memory_journal_meaning V.takes
+            self.old self.new visitor.old visitor.new) }
         ensures counted { IfOk result (λ found. length self.new.entries ≡ found) }
         ensures capacity { self.new.capacity ≡ self.old.capacity }
-        ensures failed { IfErr result
-            (RestartFailed (memory_journal_state self.old) (memory_journal_state self.new)) }
+        ensures failed { IfErr result (ListRestartFailed memory_journal_meaning
+            V.takes V.refuses self.old self.new visitor.old) }
         ensures disarmed { memory_journal_meaning.disarmed self.new }
-        ensures kept { result ≡ Ok (length self.old.entries) }
-        ensures journal { self.new ≡ restarted_journal self.old }
+        ensures refused { IfErr result (IsItemRefused V.takes V.refuses
+            (memory_journal_state self.old) (memory_journal_state self.new) visitor.old) }
+        ensures journal { OnOk result (self.new ≡ restarted_journal self.old) }
     {
+        self.running = false;
+        visit(&self.places[..self.len], visitor)?;
         self.running = true;
         Ok(self.len as u64)
     }
@@ -111,30 +116,6 @@ impl Journal for MemJournal {
         } else {
             0
         }
-    }
-
-    /// The entries from a place of the list on. It is refused with `Stopped` alone.
-    fn read(&mut self, place: u64, entries: &mut [Entry]) -> Result<(), StoreFault>
-        requires most { length entries.old ≤ 2048 }
-        requires inside { self.old.running ≡ true
-            → place + length entries.old ≤ length self.old.entries }
-        ensures read { OnOk result
-            (AreEntriesRead memory_journal_meaning self.old self.new place entries.new) }
-        ensures length { length entries.new ≡ length entries.old }
-        ensures counted { OnOk result (length self.new.entries ≡ length self.old.entries) }
-        ensures capacity { self.new.capacity ≡ self.old.capacity }
-        ensures disarmed { memory_journal_meaning.disarmed self.old
-            → memory_journal_meaning.disarmed self.new }
-        ensures failed { IfErr result (EntriesUnread memory_journal_meaning self.old self.new) }
-        ensures stopped { IfErr result (λ fault. fault ≡ StoreFault.Stopped) }
-        ensures same { self.new ≡ self.old }
-    {
-        if !self.running {
-            return Err(StoreFault::Stopped);
-        }
-        let from = place as usize;
-        entries.copy_from_slice(&self.places[from..from + entries.len()]);
-        Ok(())
     }
 
     /// Appends a group. It is refused with `Stopped` alone.
@@ -162,4 +143,15 @@ impl Journal for MemJournal {
         ensures capacity { self.new.capacity ≡ self.old.capacity }
         ensures armed { self.new ≡ self.old }
     {}
+}
+
+/// Gives entries to a visitor.
+fn visit<V: Visitor<Entry>>(entries: &[Entry], visitor: &mut V) -> Result<(), StoreFault>
+    ensures taken { OnOk result (TakesAll V.takes entries.now visitor.old visitor.new) }
+    ensures refused { IfErr result (IsEntryRefused V.takes V.refuses entries.now visitor.old) }
+{
+    for entry in entries {
+        visitor.take(entry)?;
+    }
+    Ok(())
 }

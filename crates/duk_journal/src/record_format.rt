@@ -2,27 +2,68 @@
 
 ghost use Rattle.std.specs.Prelude.{◌≡◌, ◌+◌, ◌^◌, ◌++◌, ◌<◌, ◌≤◌, ◌↔◌, IsTrue, IfSome, Some, length};
 ghost use Rattle.arrayvec.specs.ArrayVec.{array_vec_len};
-ghost use Rattle.duk_tree.specs.Path.{IsUsable};
-ghost use Rattle.duk_journal.specs.Entry.{AreFields, MayStandUnder};
-ghost use Rattle.duk_journal.specs.RecordFormat.{AreContents, contents_of};
+ghost use Rattle.duk_journal.specs.Entry.{AreFields};
+ghost use Rattle.duk_journal.specs.Groups.{HasContents};
+ghost use Rattle.duk_journal.specs.RecordFormat.{MayBeKept, SaysEntry, contents_of, entry_format};
 ghost use Rattle.duk_journal.specs.declared.record_format.Contents.{Contents};
 
 use crate::entry::{Decided, Entry};
 use arrayvec::ArrayVec;
 use byteorder::{BigEndian, ByteOrder};
+use duk_store::Format;
+pub use duk_store::OPEN;
 use duk_tree::{Ksn, usable};
 
 /// The bytes of a record: its gate, and its contents.
 pub const RECORD_LENGTH: usize = 32;
 
-/// The gate of an open record. Every other value is closed.
-pub const OPEN: u8 = 1;
-
 /// The bytes of a record after its gate.
 pub const CONTENTS_LENGTH: usize = 31;
 
+/// The most entries of a group.
+const MOST_OF_GROUP: u16 = 4096;
+
 /// The bytes of contents.
 pub type ContentsBytes = ArrayVec<u8, CONTENTS_LENGTH>;
+
+/// The format of a journal's records.
+#[derive(Drop)]
+pub struct EntryFormat {}
+
+impl Format for EntryFormat {
+    type Item = Entry;
+
+    ghost meaning = { λ _. entry_format };
+
+    fn laws(&self) {
+        duk_tree::laws::serials();
+    }
+
+    fn record_length(&self) -> usize {
+        RECORD_LENGTH
+    }
+
+    fn headers(&self) -> u64 {
+        0
+    }
+
+    fn is_header(&self, _record: &[u8]) -> bool {
+        false
+    }
+
+    fn write(&self, _place: u64, followers: u16, item: &Entry, contents: &mut [u8]) {
+        let said = Contents {
+            followers,
+            entry: *item,
+        };
+        contents.copy_from_slice(said.bytes().as_slice());
+    }
+
+    fn read(&self, _place: u64, contents: &[u8]) -> Option<(u16, Entry)> {
+        let said = Contents::of_bytes(contents)?;
+        Some((said.followers, said.entry))
+    }
+}
 
 /// What a record says after its gate.
 #[derive(Clone, Copy)]
@@ -57,9 +98,10 @@ impl Contents {
     /// The contents that are written as these bytes, or `None` where there are none.
     pub fn of_bytes(bytes: &[u8]) -> Option<Contents>
         requires { length bytes.now ≡ 31 }
-        ensures found { IfSome result (AreContents bytes.now) }
-        ensures every { (contents : Contents) → AreContents bytes.now contents
-            → result ≡ Some contents }
+        ensures found { IfSome result (λ contents.
+            SaysEntry contents.followers contents.entry bytes.now) }
+        ensures every { (contents : Contents)
+            → SaysEntry contents.followers contents.entry bytes.now → result ≡ Some contents }
     {
         duk_tree::laws::serials();
         let contents = Contents::at_their_places(bytes)?;
@@ -73,8 +115,8 @@ impl Contents {
     /// What stands where contents have their fields.
     fn at_their_places(bytes: &[u8]) -> Option<Contents>
         requires { length bytes.now ≡ 31 }
-        ensures every { (contents : Contents) → AreContents bytes.now contents
-            → result ≡ Some contents }
+        ensures every { (contents : Contents)
+            → SaysEntry contents.followers contents.entry bytes.now → result ≡ Some contents }
     {
         duk_tree::laws::serials();
         let mut number = [0; 10];
@@ -93,6 +135,17 @@ impl Contents {
     }
 }
 
+/// The contents of a record, open or closed, or `None` where it has none.
+pub fn contents_of_record(bytes: &[u8]) -> Option<Contents>
+    requires { length bytes.now ≡ 32 }
+    ensures found { IfSome result (λ contents.
+        HasContents contents.followers contents.entry bytes.now) }
+    ensures every { (contents : Contents)
+        → HasContents contents.followers contents.entry bytes.now → result ≡ Some contents }
+{
+    Contents::of_bytes(&bytes[1..])
+}
+
 /// Appends bytes to those of contents.
 fn append(contents: &mut ContentsBytes, bytes: &[u8])
     requires { array_vec_len contents.old + length bytes.now ≤ 31 }
@@ -103,20 +156,22 @@ fn append(contents: &mut ContentsBytes, bytes: &[u8])
 }
 
 /// Whether the counter of an entry's number is usable, and what was decided may stand under it.
-fn has_usable_numbers(entry: Entry) -> bool
-    ensures { IsTrue result
-        ↔ (IsUsable entry.number.counter × MayStandUnder entry.number entry.decided) }
+fn may_be_kept(entry: Entry) -> bool
+    ensures { IsTrue result ↔ MayBeKept entry }
 {
     usable(entry.number.counter()) && entry.decided.may_stand_under(entry.number)
 }
 
-/// Whether the bytes are those of these contents, the counter of their number is usable, and what was
-/// decided may stand under it.
+/// Whether the bytes are those of these contents, of a group that is not too long, with an entry
+/// that may be kept.
 fn are_contents(bytes: &[u8], contents: &Contents) -> bool
-    ensures { IsTrue result ↔ AreContents bytes.now contents.now }
+    ensures { IsTrue result ↔ SaysEntry contents.now.followers contents.now.entry bytes.now }
 {
     let contents = *contents;
-    if !has_usable_numbers(contents.entry) {
+    if contents.followers >= MOST_OF_GROUP {
+        return false;
+    }
+    if !may_be_kept(contents.entry) {
         return false;
     }
     let written = contents.bytes();

@@ -20,8 +20,8 @@ use Rattle.duk_host.specs.declared.fault.HostFault.{HostFault}
 use Rattle.duk_host.specs.declared.fault.HostFault.TheVariants as host_fault
 use Rattle.duk_journal.specs.Journal.{JournalMeaning}
 use Rattle.duk_journal.specs.Standing.{UseNewNumbers}
-use Rattle.duk_line.specs.Host.{HostOf}
-use Rattle.duk_line.specs.Restart.{HostRestartRefused}
+use Rattle.duk_journal_host.specs.Host.{HostOf}
+use Rattle.duk_journal_host.specs.Restart.{HostRestartRefused}
 use Rattle.duk_store.specs.Cell.{CellMeaning, Kept}
 use Rattle.duk_store.specs.Restart.{RestartFailed, Restarted}
 use Rattle.duk_store.specs.StoreState.{FindsOnly, IsNew, StoreState}
@@ -158,9 +158,9 @@ host_never m old new host_fault.NoMemory keeps other refused = absurd (other ref
 host_never m old new (host_fault.Store why) keeps other refused = elim refused.cause [
   | inl failed ↦ never_fails (m.host.journal.state_of old.journal) (m.host.journal.state_of new.journal) [] why keeps failed
   | inr (damaged, wrong) ↦
-      let found = wrong.journal.found keeps.honest in
-      let none : found.0 ≡ [] = (keeps.finds found.0).0 found.1.was_found in
-      absurd (wrong.not_usable keeps.honest (subst UseNewNumbers (sym none) none_used))
+      let found = wrong.not_usable keeps.honest keeps.sound in
+      let none : found.0 ≡ [] = (keeps.finds found.0).0 found.1 in
+      absurd (found.2 (subst UseNewNumbers (sym none) none_used))
 ]
 host_never m old new _ keeps other refused = absurd refused
 

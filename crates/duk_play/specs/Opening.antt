@@ -14,7 +14,7 @@ use Rattle.duk_host.specs.Table.{CardTable, table_decision}
 use Rattle.duk_journal.specs.DiskJournal.{DiskJournalOf, disk_journal_meaning, new_disk_journal}
 use Rattle.duk_journal.specs.Journal.{JournalMeaning}
 use Rattle.duk_journal.specs.RecordFormat.{record_length}
-use Rattle.duk_line.specs.Host.{HostOf}
+use Rattle.duk_journal_host.specs.Host.{HostOf}
 use Rattle.duk_script.specs.OnDisk.{DiskCell, disk_cell_meaning, new_disk_cell}
 use Rattle.duk_store.specs.MemoryCell.{MemoryCell, memory_cell_meaning, new_cell}
 use Rattle.duk_store.specs.MemoryDisk.{MemoryDisk, memory_disk_meaning, new_disk}

@@ -9,7 +9,7 @@ ghost use Rattle.duk_tdes.specs.Tdes.{IsTdesLength};
 use duk_config::{Config, ScriptFault, open_hsm};
 use duk_host::TableIssuer;
 use duk_journal::{DiskJournal, RECORD_LENGTH};
-use duk_line::JournalHost;
+use duk_journal_host::JournalHost;
 use duk_store::MemDisk;
 use duk_tdes::Key;
 use std::alloc::{AllocError, Global};

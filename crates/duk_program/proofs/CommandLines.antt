@@ -26,6 +26,7 @@ begun name.NewJournal asked text makes is = absurd makes
 begun name.CopyJournal asked text makes is = absurd makes
 begun name.Find asked text makes is = absurd makes
 begun name.Show asked text makes is = absurd makes
+begun name.Lmk asked text makes is = absurd makes
 begun name.Issue asked text makes is = absurd makes
 begun name.Walk asked text makes is = absurd makes
 begun name.Request asked text makes is =

@@ -81,6 +81,7 @@ known texts name.Initial = refl
 known texts name.Issue = refl
 known texts name.Registers = refl
 known texts name.Kcv = refl
+known texts name.Lmk = refl
 known texts name.Mac = refl
 known texts name.Data = refl
 known texts name.Pin = refl

@@ -69,6 +69,11 @@ row_of name.Registers = row (codes "registers") way.Lines
 row_of name.Kcv = row (codes "kcv") way.Lines
     (reference several (codes "KEY") ∷ plain flag (codes "components") ∷ plain flag (codes "show")
     ∷ [])
+row_of name.Lmk = row (codes "lmk") way.Files
+    (reference several (codes "COMPONENT") ∷ plain flag (codes "new")
+    ∷ called (codes "KEY") (reference valued (codes "key"))
+    ∷ called (codes "FIELDS") (reference valued (codes "fields"))
+    ∷ called (codes "PAD") (reference valued (codes "pad")) ∷ [])
 row_of name.Mac = row (codes "mac") way.Message
     (reference needed (codes "KEY") ∷ plain needed (codes "TEXT") ∷ plain flag (codes "cmac")
     ∷ plain flag (codes "hex") ∷ [])
@@ -126,7 +131,7 @@ row_of name.CopyJournal = row (codes "copy-journal") way.Files
 -- the commands, in the order in which help lists them
 abbrev pub all_commands : List CommandName
 all_commands = name.Derive ∷ name.Walk ∷ name.Initial ∷ name.Issue ∷ name.Registers ∷ name.Kcv
-    ∷ name.Mac ∷ name.Data ∷ name.Pin ∷ name.Unpin ∷ name.Translate ∷ name.Wrap ∷ name.Unwrap
+    ∷ name.Lmk ∷ name.Mac ∷ name.Data ∷ name.Pin ∷ name.Unpin ∷ name.Translate ∷ name.Wrap ∷ name.Unwrap
     ∷ name.Show ∷ name.Request ∷ name.Reply ∷ name.Find ∷ name.Run ∷ name.Serve ∷ name.NewLog
     ∷ name.NewJournal ∷ name.CopyJournal ∷ []
 

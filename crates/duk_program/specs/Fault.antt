@@ -4,6 +4,7 @@ use Rattle.duk_commands.specs.Batch.{batch_line}
 use Rattle.duk_commands.specs.Fault.{report_line}
 use Rattle.duk_commands.specs.FindFault.{find_line}
 use Rattle.duk_commands.specs.IssueFault.{issue_line}
+use Rattle.duk_components.specs.Fault.{component_fault_line}
 use Rattle.duk_io.specs.Known.{Known}
 use Rattle.duk_io.specs.Sink.{IsTried}
 use Rattle.duk_program.specs.Message.{text_fault_line}
@@ -21,6 +22,7 @@ abbrev pub fault_text : Fault → List ℕ
 fault_text (fault.Command why) = report_line why
 fault_text (fault.Find why) = find_line why
 fault_text (fault.Show why) = show_line why
+fault_text (fault.Lmk why) = component_fault_line why
 fault_text (fault.Issue why) = issue_line why
 fault_text (fault.Batch why) = batch_line why
 fault_text (fault.Secret why) = secret_line why

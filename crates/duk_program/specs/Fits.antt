@@ -36,11 +36,22 @@ has_key_of_frame request = if flag_in (codes "key") request
     then bytes_eq (text_in (codes "KIND") request) (codes "frame")
     else not (flag_in (codes "initial") request)
 
+-- `lmk` makes a new component, or a key block, of which all three are told, or neither
+abbrev pub has_one_work : Written → Bool
+has_one_work request = if flag_in (codes "new") request
+    then not (flag_in (codes "key") request || flag_in (codes "fields") request
+    || flag_in (codes "pad") request)
+    else (flag_in (codes "key") request && flag_in (codes "fields") request
+    && flag_in (codes "pad") request)
+    || not (flag_in (codes "key") request || flag_in (codes "fields") request
+    || flag_in (codes "pad") request)
+
 abbrev pub fits_by : CommandName → Written → Bool
 fits_by name.Serve request = has_one_store request
 fits_by name.Request request = has_payment_or_number request
 fits_by name.Find request = has_one_sought request
 fits_by name.Show request = has_key_of_frame request
+fits_by name.Lmk request = has_one_work request
 fits_by _ request = true
 
 -- the arguments of the request do not exclude each other

@@ -8,6 +8,7 @@ pub mod Fits
 pub mod InputLine
 pub mod IssueFiles
 pub mod Items
+pub mod Lmk
 pub mod Meant
 pub mod Message
 pub mod Options

@@ -17,6 +17,7 @@ use Rattle.duk_program.specs.Find.{HasFoundIt, HasNotFoundIt}
 use Rattle.duk_program.specs.InputLine.{with_input}
 use Rattle.duk_program.specs.IssueFiles.{HasIssuedFiles, HasNotIssuedFiles, IssueFilesKnown, issue_files_known}
 use Rattle.duk_program.specs.Items.{AreOthersReady, AreOthersRefused, LineItems, command_of_line, items_of}
+use Rattle.duk_program.specs.Lmk.{HasNotPrintedLmk, HasPrintedLmk}
 use Rattle.duk_program.specs.Message.{HasUnreadText, IsMessage, message_of}
 use Rattle.duk_program.specs.Refusal.{IsEndStatus}
 use Rattle.duk_program.specs.Roots.{IsBehindNote}
@@ -93,6 +94,8 @@ IsDoneUntold meaning s name.CopyJournal asked = IsIdle s (HasCopiedJournal meani
     (s.disks (text_in (codes "OLD") asked)) (s.making (text_in (codes "NEW") asked)))
 IsDoneUntold meaning s name.Show asked = HasLeftInput s.streams (HasShownAsked asked
     (s.held (text_in (codes "WHAT") asked)) s.streams.output_before s.streams.output_after)
+IsDoneUntold meaning s name.Lmk asked = HasLeftInput s.streams
+    (HasPrintedLmk asked s.streams.output_before s.streams.output_after)
 IsDoneUntold meaning s name.Mac asked = IsDoneOverMessage s.held s.streams asked
 IsDoneUntold meaning s name.Data asked = IsDoneOverMessage s.held s.streams asked
 IsDoneUntold meaning s _ asked = HasLeftInput s.streams
@@ -139,6 +142,8 @@ IsNotDoneUntold meaning s name.NewJournal asked why = IsFileUnmade Journal meani
 IsNotDoneUntold meaning s name.CopyJournal asked why = IsUncopied meaning s asked why
 IsNotDoneUntold meaning s name.Show asked why = HasLeftInput s.streams (HasNotShownAsked asked
     (s.held (text_in (codes "WHAT") asked)) s.streams.output_before why s.streams.output_after)
+IsNotDoneUntold meaning s name.Lmk asked why = HasLeftInput s.streams
+    (HasNotPrintedLmk asked s.streams.output_before why s.streams.output_after)
 IsNotDoneUntold meaning s name.Mac asked why = IsNotDoneOverMessage s.held s.streams asked why
 IsNotDoneUntold meaning s name.Data asked why = IsNotDoneOverMessage s.held s.streams asked why
 IsNotDoneUntold meaning s _ asked why = HasLeftInput s.streams

@@ -17,6 +17,7 @@ ghost use Rattle.duk_service.specs.declared.new_file.NewFileFault.{NewFileFault}
 use crate::command_line::{CommandName, Request};
 use crate::commands::find::find_made;
 use crate::commands::issue::issue_files;
+use crate::commands::lmk::lmk_asked;
 use crate::commands::run::run_files;
 use crate::commands::serve::serve_files;
 use crate::commands::show::show_asked;
@@ -181,6 +182,7 @@ fn answer_untold<S: FileSystem + LogFiles, R: Source, W: Sink>(
             }
         }
         CommandName::Show => show_asked(alloc, files, request, output),
+        CommandName::Lmk => lmk_asked(alloc, request, output),
         CommandName::Mac | CommandName::Data => {
             answer_message(alloc, files, request, input, output)
         }

@@ -25,7 +25,7 @@ use std::alloc::{AllocError, Global};
 const VERSION: &str = "0.1.0";
 
 /// The program's commands, in the order in which help lists them.
-fn all_commands() -> [CommandName; 22]
+fn all_commands() -> [CommandName; 23]
     ensures { result ≡ all_commands }
 {
     [
@@ -35,6 +35,7 @@ fn all_commands() -> [CommandName; 22]
         CommandName::Issue,
         CommandName::Registers,
         CommandName::Kcv,
+        CommandName::Lmk,
         CommandName::Mac,
         CommandName::Data,
         CommandName::Pin,
@@ -65,6 +66,7 @@ pub(crate) fn usage_of<'a>(command: CommandName) -> Usage<'a>
         CommandName::Issue => commands::issue::usage(),
         CommandName::Registers => commands::registers::usage(),
         CommandName::Kcv => commands::kcv::usage(),
+        CommandName::Lmk => commands::lmk::usage(),
         CommandName::Mac => commands::mac::usage(),
         CommandName::Data => commands::data::usage(),
         CommandName::Pin => commands::pin::usage(),

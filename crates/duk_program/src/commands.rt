@@ -14,6 +14,7 @@ pub(crate) mod find;
 pub(crate) mod initial;
 pub(crate) mod issue;
 pub(crate) mod kcv;
+pub(crate) mod lmk;
 pub(crate) mod mac;
 pub(crate) mod new_journal;
 pub(crate) mod new_log;

@@ -7,6 +7,7 @@ use crate::message::text_fault_line;
 use crate::secrets::SecretFault;
 use duk_commands::issue::IssueFault;
 use duk_commands::{BatchFault, FindFault, tell};
+use duk_components::ComponentFault;
 use duk_config::ScriptFault;
 use duk_io::Sink;
 use duk_script::print_fault;
@@ -25,6 +26,8 @@ pub enum Fault {
     Find(FindFault),
     /// Of `show`.
     Show(ShowFault),
+    /// Of the components of `lmk`.
+    Lmk(ComponentFault),
     /// Of `issue`.
     Issue(IssueFault),
     /// Of a command over the lines of the input.
@@ -55,6 +58,7 @@ impl Fault {
             Fault::Command(why) => tell(fault, why.line().as_slice()),
             Fault::Find(why) => tell(fault, why.line().as_slice()),
             Fault::Show(why) => tell(fault, why.line().as_slice()),
+            Fault::Lmk(why) => tell(fault, why.line().as_slice()),
             Fault::Issue(why) => tell(fault, why.line().as_slice()),
             Fault::Batch(why) => tell(fault, why.line().as_slice()),
             Fault::Secret(why) => tell(fault, why.line().as_slice()),

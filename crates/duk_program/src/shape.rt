@@ -25,8 +25,8 @@ pub enum Shape {
 pub(crate) enum Answers {
     /// This one.
     Are(Shape),
-    /// This one, but `Whole` with the option of this name.
-    Without(&'static str, Shape),
+    /// With the option of this name the first, and else the second.
+    ByOption(&'static str, Shape, Shape),
     /// That of the kind which KIND names.
     OfKind,
 }
@@ -36,8 +36,8 @@ pub(crate) enum Answers {
 pub fn shape_of(request: &Request<'_>) -> Shape {
     match usage_of(request.command()).answers {
         Answers::Are(shape) => shape,
-        Answers::Without(option, _) if request.flag(option) => Shape::Whole,
-        Answers::Without(_, shape) => shape,
+        Answers::ByOption(option, with, _) if request.flag(option) => with,
+        Answers::ByOption(_, _, without) => without,
         Answers::OfKind => shape_of_kind(request.text("KIND")),
     }
 }

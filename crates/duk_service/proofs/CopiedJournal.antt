@@ -1,11 +1,12 @@
 -- What is known of a journal that is checked, and then copied.
 use Rattle.std.proofs.Common.{◌≡◌, ◌∙◌, ap, ℕ, List, inl, inr, length, refl, subst, sym, true}
 use Rattle.std.specs.Prelude.{None}
-use Rattle.duk_copy.specs.Copy.{IsCopied, copied_bytes}
-use Rattle.duk_journal.specs.DiskJournal.{DiskJournalOf, MayFindEntries, disk_journal_meaning, is_journal_running, new_disk_journal}
+use Rattle.duk_journal_copy.specs.Copy.{IsCopied, copied_bytes}
+use Rattle.duk_journal.specs.DiskJournal.{DiskJournalOf, MayFindEntries, disk_journal_meaning, new_disk_journal}
+use Rattle.duk_store.specs.DiskRecords.{are_running}
 use Rattle.duk_journal.specs.Groups.{Entries, KeepsEntries}
-use Rattle.duk_line.specs.Check.{IsChecked}
-use Rattle.duk_line.specs.declared.check.Checked.{Checked}
+use Rattle.duk_journal_host.specs.Check.{IsChecked}
+use Rattle.duk_journal_host.specs.declared.check.Checked.{Checked}
 use Rattle.duk_service.specs.CopyJournal.{HasCopiedJournal, HasKept, IsCopyJournalRefused, IsNoneOrCopy, IsOldChecked, IsOtherJournal, Keeps}
 use Rattle.duk_service.specs.LogFiles.{DiskKnown, IsDisk, MakingKnown}
 use Rattle.duk_service.specs.NewFile.{IsUnmade}
@@ -109,7 +110,7 @@ module _ {D : Type 0} (meaning : DiskMeaning D) (known : DiskKnown D) (making : 
   }
 
   -- a read of it gives what is kept
-  reads_keep : (is_journal_running journal.kept ≡ true → (meaning.state_of disk).honest → LeavesReads (meaning.state_of disk))
+  reads_keep : (are_running journal.kept ≡ true → (meaning.state_of disk).honest → LeavesReads (meaning.state_of disk))
       → (meaning.state_of opened).honest → KeepsEntries (meaning.state_of disk).reads checked.entries
   reads_keep one honest =
       let held = disk_found honest in
@@ -124,7 +125,7 @@ module _ {D : Type 0} (meaning : DiskMeaning D) (known : DiskKnown D) (making : 
       (copied_from found.count (meaning.state_of disk) (meaning.state_of last) (meaning.state_of made) (meaning.state_of filled) nature bytes copied)
 
   pub has_copied : PreservesDisk (meaning.state_of disk) (meaning.state_of last) → PreservesBytes (meaning.state_of disk) (meaning.state_of last)
-      → (is_journal_running journal.kept ≡ true → (meaning.state_of disk).honest → LeavesReads (meaning.state_of disk))
+      → (are_running journal.kept ≡ true → (meaning.state_of disk).honest → LeavesReads (meaning.state_of disk))
       → IsCopyMade meaning making (meaning.state_of opened).size found (meaning.state_of disk)
       → HasCopiedJournal meaning known making
   unfolding old_checked
@@ -154,7 +155,7 @@ module _ {D : Type 0} (meaning : DiskMeaning D) (known : DiskKnown D) (making : 
 
   -- what is left of a disk that was made, by what was read
   left_copy : (nature : PreservesDisk (meaning.state_of disk) (meaning.state_of last)) (bytes : PreservesBytes (meaning.state_of disk) (meaning.state_of last))
-      → (is_journal_running journal.kept ≡ true → (meaning.state_of disk).honest → LeavesReads (meaning.state_of disk))
+      → (are_running journal.kept ≡ true → (meaning.state_of disk).honest → LeavesReads (meaning.state_of disk))
       → (made left : DiskState) → IsNoneOrKept found.count (meaning.state_of disk) made left
       → IsNoneOrCopy meaning known (old_checked nature bytes) made left
   unfolding old_checked
@@ -162,7 +163,7 @@ module _ {D : Type 0} (meaning : DiskMeaning D) (known : DiskKnown D) (making : 
 
   -- a file is made in part
   part_copied : (nature : PreservesDisk (meaning.state_of disk) (meaning.state_of last)) (bytes : PreservesBytes (meaning.state_of disk) (meaning.state_of last))
-      → (is_journal_running journal.kept ≡ true → (meaning.state_of disk).honest → LeavesReads (meaning.state_of disk))
+      → (are_running journal.kept ≡ true → (meaning.state_of disk).honest → LeavesReads (meaning.state_of disk))
       → (size : ℕ) → IsUnmade meaning making size (IsNoneOrKept found.count (meaning.state_of disk))
       → IsUnmade meaning making size (IsNoneOrCopy meaning known (old_checked nature bytes))
   part_copied nature bytes one size (inl none) = inl none
@@ -176,7 +177,7 @@ module _ {D : Type 0} (meaning : DiskMeaning D) (known : DiskKnown D) (making : 
 
   pub not_copied : (why : CopyJournalFault) → PreservesBytes (meaning.state_of disk) (meaning.state_of last)
       → PreservesDisk (meaning.state_of disk) (meaning.state_of last)
-      → (is_journal_running journal.kept ≡ true → (meaning.state_of disk).honest → LeavesReads (meaning.state_of disk))
+      → (are_running journal.kept ≡ true → (meaning.state_of disk).honest → LeavesReads (meaning.state_of disk))
       → CopyNotMade meaning making (meaning.state_of opened).size found (meaning.state_of disk) (meaning.state_of last) why
       → IsCopyJournalRefused meaning known making why
   unfolding old_checked

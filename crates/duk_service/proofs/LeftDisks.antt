@@ -1,6 +1,6 @@
 -- What is left of a disk that was made for a journal, whenever it is stopped.
 use Rattle.std.proofs.Common.{◌≡◌, ℕ, inr, subst}
-use Rattle.duk_copy.specs.Copy.{IsCopied}
+use Rattle.duk_journal_copy.specs.Copy.{IsCopied}
 use Rattle.std.specs.Prelude.{Option}
 use Rattle.duk_journal.specs.DiskJournal.{disk_journal_state}
 use Rattle.duk_journal.specs.Groups.{Entries, KeepsEntries}

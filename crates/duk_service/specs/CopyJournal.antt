@@ -1,13 +1,13 @@
 -- What `copy-journal` makes (this project's own).
 use Rattle.std.specs.Prelude.{◌≢◌, ◌≡◌, ◌⊎◌, ◌↔◌, ℕ, List, None, length}
-use Rattle.duk_copy.specs.Copy.{IsCopied}
+use Rattle.duk_journal_copy.specs.Copy.{IsCopied}
 use Rattle.duk_host.specs.declared.fault.HostFault.TheVariants.{Store}
 use Rattle.duk_journal.specs.DiskJournal.{DiskJournalOf, MayFindEntries, disk_journal_meaning, disk_journal_state, new_disk_journal}
 use Rattle.duk_journal.specs.Groups.{Entries}
 use Rattle.duk_journal.specs.Journal.{JournalMeaning}
 use Rattle.duk_journal.specs.Standing.{UseNewNumbers}
-use Rattle.duk_line.specs.Check.{CheckRefused, IsChecked, checked_of}
-use Rattle.duk_line.specs.declared.check.Checked.{Checked}
+use Rattle.duk_journal_host.specs.Check.{CheckRefused, IsChecked, checked_of}
+use Rattle.duk_journal_host.specs.declared.check.Checked.{Checked}
 use Rattle.duk_service.specs.LogFiles.{DiskKnown, IsDisk, IsFolderSynced, IsNoDisk, MakingKnown}
 use Rattle.duk_service.specs.NewFile.{IsNoneOrWhole, IsUnmade, new_file_line}
 use Rattle.duk_service.specs.OwnFiles.{IsNoOwnDisk, IsOwnDisk}

@@ -5,7 +5,7 @@ use Rattle.duk_host.specs.contracts.host.Host as host
 use Rattle.duk_host.specs.contracts.table.TableIssuer as issuer
 use Rattle.duk_host.specs.contracts.table.TableIssuerIssuer.TheImpl as deciding
 use Rattle.duk_journal.specs.declared.journal.Journal.{Ghosts as JournalGhosts}
-use Rattle.duk_line.specs.contracts.host.JournalHost as journal_host
+use Rattle.duk_journal_host.specs.contracts.host.JournalHost as journal_host
 use Rattle.duk_store.specs.declared.log.UsedLog.{Ghosts}
 use denote.Param.{layout, number}
 use denote.RattleType.{RattleType}

@@ -1,6 +1,6 @@
 -- What contracts know of the files of logs (this project's own).
 use Rattle.std.specs.Prelude.{◌≡◌, ⊤, ℕ, Bool, true, false, Option, Some, None, replicate}
-use Rattle.duk_copy.specs.InPart.{IsUnfinished}
+use Rattle.duk_journal_copy.specs.InPart.{IsUnfinished}
 use Rattle.duk_io.specs.Known.{Known}
 use Rattle.duk_journal.specs.RecordFormat.{IsJournalSize}
 use Rattle.duk_service.specs.declared.log_files.Access.{Access}

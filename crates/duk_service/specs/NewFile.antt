@@ -1,8 +1,8 @@
 -- What `new-log` and `new-journal` make (this project's own).
 use Rattle.std.specs.Prelude.{⊤, ◌≢◌, ◌≡◌, ◌≤◌, ◌*◌, ◌⊎◌, ℕ, List, [], codes}
 use Rattle.duk_commands.specs.Decimal.{IsDecimal}
-use Rattle.duk_copy.specs.Blank.{IsBlankWritten}
-use Rattle.duk_copy.specs.InPart.{IsNoJournal}
+use Rattle.duk_journal_copy.specs.Blank.{IsBlankWritten}
+use Rattle.duk_journal_copy.specs.InPart.{IsNoJournal}
 use Rattle.duk_journal.specs.DiskJournal.{IsZeroJournalDisk}
 use Rattle.duk_journal.specs.Groups.{Entries, KeepsEntries}
 use Rattle.duk_journal.specs.RecordFormat.{IsJournalSize}

@@ -6,9 +6,9 @@ use Rattle.duk_config.specs.Settings.{Settings}
 use Rattle.duk_host.specs.Table.{CardTable, table_decision}
 use Rattle.duk_host.specs.declared.fault.HostFault.{HostFault}
 use Rattle.duk_journal.specs.Journal.{JournalMeaning}
-use Rattle.duk_line.specs.Host.{HostMeaning, HostOf, host_meaning_of}
-use Rattle.duk_line.specs.Restart.{HostRestartRefused, IsHostRestarted}
-use Rattle.duk_line.specs.Serve.{IsReadToEnd, ServiceFailed, service}
+use Rattle.duk_journal_host.specs.Host.{HostMeaning, HostOf, host_meaning_of}
+use Rattle.duk_journal_host.specs.Restart.{HostRestartRefused, IsHostRestarted}
+use Rattle.duk_journal_host.specs.Serve.{IsReadToEnd, ServiceFailed, service}
 use Rattle.duk_service.specs.Serve.{HasNotServed, HasNothingServed, HasServed, IsNotMade, Serving}
 use Rattle.duk_service.specs.declared.left_records.RecordFormat.TheVariants.{Journal}
 use Rattle.duk_service.specs.declared.serve_fault.ServeFault.{ServeFault}

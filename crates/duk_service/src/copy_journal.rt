@@ -2,7 +2,7 @@
 
 ghost use Rattle.std.specs.Prelude.{◌≡◌, ◌≤◌, ◌*◌, IfErr, IfOk, OnOk, length, replicate};
 ghost use Rattle.duk_journal.specs.DiskJournal.{disk_journal_meaning};
-ghost use Rattle.duk_line.specs.Check.{IsChecked};
+ghost use Rattle.duk_journal_host.specs.Check.{IsChecked};
 ghost use Rattle.duk_service.specs.CopyJournal.{HasCopiedJournal, IsCopyJournalRefused, copy_journal_line};
 ghost use Rattle.duk_service.specs.LogFiles.{BeginsUnfinished, IsFolderSynced};
 ghost use Rattle.duk_service.specs.OwnFiles.{IsOwnDisk};
@@ -13,10 +13,10 @@ ghost use Rattle.duk_store.specs.Disk.{PreservesBytes, PreservesDisk};
 use crate::left_records::RecordFormat;
 use crate::log_files::{Access, LogFiles};
 use crate::own_files::{OpenFault, open_own};
-use duk_copy::{CopyFault, PIECE_LENGTH, write_copy};
 use duk_host::HostFault;
 use duk_journal::{DiskJournal, Journal};
-use duk_line::{Checked, check_journal};
+use duk_journal_copy::{CopyFault, PIECE_LENGTH, write_copy};
+use duk_journal_host::{Checked, check_journal};
 use duk_store::Disk;
 use std::alloc::{AllocError, Global};
 
@@ -203,7 +203,7 @@ fn write_new<D: Disk>(
     ensures left { IsNoneOrKept kept (D.meaning.state_of old.old)
         (D.meaning.state_of disk.old) (D.meaning.state_of disk.new) }
 {
-    duk_copy::laws::unfinished();
+    duk_journal_copy::laws::unfinished();
     if disk.size() != size {
         return Err(CopyJournalFault::Unmade);
     }

@@ -10,7 +10,7 @@ ghost use Rattle.duk_service.specs.inner.NewFile.{BeginsAs, IsKeptBlank, IsNotKe
 use crate::left_records::RecordFormat;
 use crate::log_files::LogFiles;
 use duk_commands::read_decimal;
-use duk_copy::{PIECE_LENGTH, write_blank};
+use duk_journal_copy::{PIECE_LENGTH, write_blank};
 use duk_store::{Disk, StoreFault};
 use std::alloc::{AllocError, Global};
 
@@ -167,7 +167,7 @@ fn keep_blank<S: LogFiles>(
     ensures left { IsLeftInPart format
         (S.Disk.meaning.state_of disk.old) (S.Disk.meaning.state_of disk.new) }
 {
-    duk_copy::laws::unfinished();
+    duk_journal_copy::laws::unfinished();
     if disk.size() != size {
         return Err(StoreFault::Device);
     }

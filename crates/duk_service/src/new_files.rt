@@ -72,7 +72,7 @@ pub(crate) fn open_new<R: Files<File = File>>(files: &R, path: &str) -> io::Resu
 
 /// Locks a new file, and gives it so many bytes, which are synced. The first byte of an unfinished one
 /// is 1, and on the medium before there are more, which are zeros: a file that begins so is no journal
-/// (`duk_copy::laws::unfinished`), however soon its writer is stopped.
+/// (`duk_journal_copy::laws::unfinished`), however soon its writer is stopped.
 fn lock_sized(file: &File, size: u64, begin: Begin) -> io::Result<()> {
     file.try_lock()?;
     if let Begin::Unfinished = begin {

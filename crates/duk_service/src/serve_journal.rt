@@ -5,7 +5,7 @@
 
 ghost use Rattle.std.specs.Prelude.{◌≡◌, IfErr, IfOk, OnOk};
 ghost use Rattle.duk_io.specs.Sink.{IsHandedOn};
-ghost use Rattle.duk_line.specs.Host.{host_meaning_of};
+ghost use Rattle.duk_journal_host.specs.Host.{host_meaning_of};
 ghost use Rattle.duk_service.specs.HostSize.{JournalHostFits, JournalHostsFit};
 ghost use Rattle.duk_service.specs.Serve.{serving_of};
 ghost use Rattle.duk_service.specs.ServeJournal.{HasNotServedJournal, HasServedJournal, IsJournalServed, JournalServiceRefused, journal_host_of, over_journal};
@@ -20,7 +20,7 @@ use duk_config::{Config, open_hsm};
 use duk_host::{HostFault, Issuer, TableIssuer};
 use duk_io::{Sink, Source};
 use duk_journal::Journal;
-use duk_line::{JournalHost, Workspace, serve};
+use duk_journal_host::{JournalHost, Workspace, serve};
 use duk_tdes::{Key, KeyBytes};
 use std::alloc::{AllocError, Global};
 

@@ -2,11 +2,12 @@
 use Rattle.std.proofs.Common.{◌≡◌, ◌⊎◌, ◌+◌, ◌-◌, ◌*◌, ◌/◌, ◌≤◌, ◌∷◌, ◌++◌, [], inl, inr, ℕ, zero, suc, List, Option, Some, None, Contains, length, drop, take, refl, sym, subst, ap, ◌∙◌, length-append, arith}
 use Rattle.std.proofs.lemmas.Bool.{cases_lt}
 use Rattle.std.proofs.lemmas.List.{drop_all}
-use Rattle.duk_journal.specs.Groups.{AreClosedFrom, AreKeptFrom, Entries, HasContents}
+use Rattle.duk_journal.specs.Groups.{Entries, HasContents}
 use Rattle.duk_journal.specs.RecordFormat.{IsOpen, contents_of, record_at}
 use Rattle.duk_journal.specs.Standing.{UseNewNumbers, used_by}
 use Rattle.duk_journal.specs.declared.entry.Entry.{Entry}
 use Rattle.duk_journal.specs.declared.record_format.Contents.{Contents}
+use Rattle.duk_journal.specs.inner.Groups.{AreClosedFrom, AreKeptFrom}
 use Rattle.duk_show.specs.Journal.{BeginsJournal, GoesOn, IsCutRecord, IsJournal, IsJournalRefused, StandFrom}
 use Rattle.duk_show.specs.declared.fault.ShowFault.{ShowFault}
 use Rattle.duk_show.specs.declared.fault.ShowFault.TheVariants.{JournalRefused, OutOfMemory}
@@ -115,7 +116,7 @@ next_goes place (suc left) entries (p ∷ rest) bytes begins usable keeps = elim
 
 goes_on : OneContents → (place left : ℕ) (entries all : Entries) (bytes : List ℕ) → BeginsJournal place left entries bytes → IsJournal bytes all → GoesOn place left entries (record_at place bytes)
 goes_on one place left entries all bytes begins is =
-    let rest = rest_kept one entries all 0 0 left bytes begins.stand is.keeps in
+    let rest = rest_kept one entries all 0 0 left bytes begins.stand is.keeps.listed in
     let here : 0 + length entries ≡ length entries = omega arith in
     next_goes place left entries rest.0 bytes begins (subst (λ (all : Entries). UseNewNumbers all) rest.1 is.usable)
     (subst (λ (n : ℕ). AreKeptFrom rest.0 left n bytes) here rest.2)
@@ -223,9 +224,12 @@ pub all_kept : (entries : Entries) (bytes : List ℕ) (records : ℕ) → AreGro
     → IsJournal bytes entries
 all_kept entries bytes records groups end closed some whole = record {
   size = (records, some, whole);
-  keeps = stand_kept entries 0 0 bytes groups.begins.stand (λ later past. elim (cases_lt later records) [
-    | inl inside ↦ closed later (omega (arith, past)) inside
-    | inr behind ↦ not_open (record_at later bytes) (past_end later bytes (omega (arith, whole, behind)))
-  ]);
+  keeps = record {
+    header = λ has. absurd (omega (arith, has));
+    listed = stand_kept entries 0 0 bytes groups.begins.stand (λ later past. elim (cases_lt later records) [
+      | inl inside ↦ closed later (omega (arith, past)) inside
+      | inr behind ↦ not_open (record_at later bytes) (past_end later bytes (omega (arith, whole, behind)))
+    ]);
+  };
   usable = groups.begins.usable;
 }

@@ -1,5 +1,5 @@
 -- One step of a disk after another.
-use Rattle.std.proofs.Common.{◌≡◌, ℕ, List, length, ◌∙◌, subst, sym}
+use Rattle.std.proofs.Common.{◌≡◌, ℕ, List, Ok, Err, Result, IfOk, OnOk, length, ◌∙◌, subst, sym}
 use Rattle.duk_store.specs.Disk.{DiskState, HasFailed, PreservesBytes, PreservesDisk, LeavesItsSize}
 use Rattle.duk_store.specs.inner.SlotSteps.{Change, IsStepDone, IsStepFailed}
 use Rattle.duk_store.specs.declared.fault.StoreFault.{StoreFault}
@@ -86,3 +86,12 @@ bytes_on old mid new first second = record {
     (λ left. (second.may_leave bytes).1 ((first.may_leave bytes).1 left)),
   );
 }
+
+-- two facts of what succeeded
+pub both_ok : {T E P Q R : Type 0} (result : Result T E) → OnOk result P → OnOk result Q → (P → Q → R) → OnOk result R
+both_ok (Ok value) one two join = join one two
+both_ok (Err fault) one two join = tt
+
+pub both_if_ok : {T E : Type 0} {P Q R : T → Type 0} (result : Result T E) → IfOk result P → IfOk result Q → ((value : T) → P value → Q value → R value) → IfOk result R
+both_if_ok (Ok value) one two join = join value one two
+both_if_ok (Err fault) one two join = tt

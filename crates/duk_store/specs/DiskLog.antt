@@ -1,48 +1,32 @@
--- A log of used numbers on a disk: this project's own.
-use Rattle.std.specs.Prelude.{◌≡◌, ◌↔◌, ◌/◌, ℕ, Bool, true, false, List, replicate, Option, Some, None}
+-- A log of used numbers on a disk, as records of its format: this project's own.
+use Rattle.std.specs.Prelude.{◌≡◌, ◌/◌, ℕ, Option, None}
 use Rattle.duk_store.specs.Disk.{DiskMeaning, DiskState}
+use Rattle.duk_store.specs.DiskRecords.{IsSoundDisk, IsZeroDisk, MayFindItems, RecordsOf, count_in, records_state}
 use Rattle.duk_store.specs.Log.{LogMeaning, Numbers}
-use Rattle.duk_store.specs.RecordFormat.{IsLogSize, KeepsNumbers, record_length}
+use Rattle.duk_store.specs.LogFormat.{log_format}
+use Rattle.duk_store.specs.RecordFormat.{record_length}
 use Rattle.duk_store.specs.StoreState.{StoreState}
+use Rattle.duk_store.specs.declared.log_format.LogFormat.{LogFormat}
 
--- a log on a disk: the disk, and how many numbers it keeps, while it runs
-pub record DiskLogOf (D : Type 0) : Type 0 where
-  pub disk : D
-  pub kept : Option ℕ
+-- a log on a disk: its records
+abbrev pub DiskLogOf : Type 0 → Type 0
+DiskLogOf D = RecordsOf D LogFormat
 
 -- a log as it is made: it is stopped
 abbrev pub new_disk_log : {D : Type 0} → D → DiskLogOf D
-new_disk_log disk = record { disk = disk; kept = None }
-
--- whether it runs, and how many numbers it counts
-abbrev pub is_log_running : Option ℕ → Bool
-is_log_running None = false
-is_log_running (Some count) = true
-
-abbrev pub count_in : Option ℕ → ℕ
-count_in None = 0
-count_in (Some count) = count
+new_disk_log disk = record { disk = disk; format = record {}; kept = None }
 
 -- a restart may find this list: some bytes that a stop could leave keep it
 abbrev pub MayFindNumbers : DiskState → Numbers → Type 0
-MayFindNumbers disk numbers = (bytes : List ℕ) × disk.may_leave bytes × KeepsNumbers bytes numbers
+MayFindNumbers disk numbers = MayFindItems log_format disk numbers
 
 -- the disk has the size of a log's, and all bytes that a stop could leave keep some list
-pub record IsSoundLogDisk (disk : DiskState) : Type 0 where
-  pub size : IsLogSize disk.size
-  pub each_keeps : (bytes : List ℕ) → disk.may_leave bytes
-      → (numbers : Numbers) × KeepsNumbers bytes numbers
+abbrev pub IsSoundLogDisk : DiskState → Type 0
+IsSoundLogDisk disk = IsSoundDisk log_format disk
 
 -- the state of a log, by that of its disk
 abbrev pub disk_log_state : DiskState → Option ℕ → StoreState Numbers
-disk_log_state disk kept = record {
-  honest = disk.honest;
-  sound = IsSoundLogDisk disk;
-  calm = disk.calm;
-  running = is_log_running kept;
-  found = MayFindNumbers disk;
-  failures = disk.failures;
-}
+disk_log_state disk kept = records_state log_format disk kept
 
 -- what logs on the disks of one kind mean
 abbrev pub disk_log_meaning : {D : Type 0} → DiskMeaning D → LogMeaning (DiskLogOf D)
@@ -55,9 +39,8 @@ disk_log_meaning meaning = record {
 }
 
 -- a disk of which a stop leaves zero bytes, whether or not a device step is to fail
-pub record IsZeroLogDisk (disk : DiskState) : Type 0 where
-  pub size : IsLogSize disk.size
-  pub zeros : (bytes : List ℕ) → disk.may_leave bytes ↔ (bytes ≡ replicate disk.size 0)
+abbrev pub IsZeroLogDisk : DiskState → Type 0
+IsZeroLogDisk disk = IsZeroDisk log_format disk
 
 -- a new disk
 pub record IsBlankLogDisk (disk : DiskState) : Type 0 where

@@ -8,6 +8,13 @@ pub mod Disk
 pub mod SlotFormat
 pub mod SlotCell
 pub mod RecordFormat
+pub mod Format
+pub mod Records
+pub mod Grown
+pub mod Visitor
+pub mod Listed
+pub mod DiskRecords
+pub mod LogFormat
 pub mod DiskLog
 pub mod Device
 pub mod MemoryCell

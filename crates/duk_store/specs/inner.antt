@@ -1,9 +1,10 @@
 pub mod Device
-pub mod DiskLog
 pub mod FileMedium
 pub mod MemoryDisk
-pub mod RecordCount
-pub mod RecordFormat
+pub mod Groups
+pub mod GroupSteps
+pub mod Reading
+pub mod RecordSteps
 pub mod SlotCell
 pub mod SlotChoice
 pub mod SlotFormat

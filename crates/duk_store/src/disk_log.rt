@@ -1,18 +1,19 @@
-//! A log of used numbers on a disk, and the device calls of an append.
+//! A log of used numbers on a disk.
 
 ghost use Rattle.std.specs.Prelude.{◌≡◌, ◌+◌, ◌<◌, [], true, IfErr, IfOk};
 ghost use Rattle.duk_store.specs.Disk.{LeavesWithin, StaysArmed};
 ghost use Rattle.duk_store.specs.DiskLog.{IsBlankLogDisk, IsZeroLogDisk, disk_log_meaning, disk_log_state, new_disk_log};
-ghost use Rattle.duk_store.specs.inner.DiskLog.{IsLogUp, LogUpFailed};
 ghost use Rattle.duk_store.specs.Log.{AppendFailed, IsAppended, IsReadAt, LogRestarted, ReadFailed};
+ghost use Rattle.duk_store.specs.RecordFormat.{number_in};
 ghost use Rattle.duk_store.specs.Restart.{RestartFailed};
 ghost use Rattle.duk_store.specs.StoreState.{IsNew, KeepsNothing};
 
 use crate::disk::Disk;
 use crate::fault::StoreFault;
 use crate::log::UsedLog;
-use crate::record_format::RECORD_LENGTH;
-use crate::record_steps::{count_records, open_log, read_record, write_record};
+use crate::log_format::{LogFormat, RECORD_LENGTH};
+use crate::records::Records;
+use crate::visitor::NoVisitor;
 use duk_tree::Ksn;
 use std::marker::Model;
 
@@ -23,20 +24,15 @@ use std::marker::Model;
 /// has the device calls). So a stop leaves the list without the number or with it.
 #[derive(Drop)]
 pub struct DiskLog<D: Disk> {
-    disk: D,
-    /// How many numbers are kept, while the log runs.
-    kept: Option<u64>,
+    records: Records<D, LogFormat>,
 }
 
 impl<D: Disk> Model for DiskLog<D> {
     ghost use Rattle.duk_store.specs.DiskLog.{DiskLogOf};
-    ghost use Rattle.duk_store.specs.inner.DiskLog.{KnowsLog};
 
     ghost Value = { DiskLogOf D };
 
-    ghost view = { λ log. record { disk = log.disk; kept = log.kept } };
-
-    ghost invariant = { λ log. KnowsLog (D.meaning.state_of log.disk) log.kept };
+    ghost view = { λ log. log.records };
 }
 
 impl<D: Disk> DiskLog<D> {
@@ -49,14 +45,16 @@ impl<D: Disk> DiskLog<D> {
         ensures empty { IsZeroLogDisk (D.meaning.state_of disk)
             → KeepsNothing ((disk_log_meaning D.meaning).state_of result) [] }
     {
-        DiskLog { disk, kept: None }
+        DiskLog {
+            records: Records::new(disk, LogFormat {}),
+        }
     }
 
     /// The disk, as it stands.
     pub fn into_disk(self) -> D
         ensures { result ≡ self.disk }
     {
-        self.disk
+        self.records.into_disk()
     }
 }
 
@@ -76,24 +74,16 @@ impl<D: Disk> UsedLog for DiskLog<D> {
         ensures restored { LeavesWithin (D.meaning.state_of self.old.disk)
             (D.meaning.state_of self.new.disk) }
     {
-        self.kept = None;
-        let count = bring_up(&mut self.disk)?;
-        self.kept = Some(count);
-        Ok(count)
+        let mut piece = [0; RECORD_LENGTH];
+        self.records.restart(&mut piece, &mut NoVisitor {})
     }
 
     fn len(&self) -> u64 {
-        match self.kept {
-            None => 0,
-            Some(count) => count,
-        }
+        self.records.len()
     }
 
     fn room(&self) -> u64 {
-        match self.kept {
-            None => 0,
-            Some(count) => self.disk.size() / RECORD_LENGTH as u64 - count,
-        }
+        self.records.room()
     }
 
     fn at(&mut self, place: u64) -> Result<Ksn, StoreFault>
@@ -111,16 +101,9 @@ impl<D: Disk> UsedLog for DiskLog<D> {
         ensures arming { StaysArmed (D.meaning.state_of self.old.disk)
             (D.meaning.state_of self.new.disk) }
     {
-        let Some(_count) = self.kept else {
-            return Err(StoreFault::Stopped);
-        };
-        match read_record(&mut self.disk, place) {
-            Ok(found) => Ok(found.number),
-            Err(fault) => {
-                self.kept = None;
-                Err(fault)
-            }
-        }
+        let mut bytes = [0; RECORD_LENGTH];
+        self.records.read_record(place, &mut bytes)?;
+        Ok(number_of(&bytes))
     }
 
     /// An append makes four device calls, on the first closed record. Each is followed by what a
@@ -146,32 +129,20 @@ impl<D: Disk> UsedLog for DiskLog<D> {
         ensures arming { StaysArmed (D.meaning.state_of self.old.disk)
             (D.meaning.state_of self.new.disk) }
     {
-        let Some(count) = self.kept else {
-            return Err(StoreFault::Stopped);
-        };
-        duk_tree::laws::serials();
-        self.kept = None;
-        write_record(&mut self.disk, count, number)?;
-        self.kept = Some(count + 1);
-        Ok(())
+        let mut piece = [0; RECORD_LENGTH];
+        self.records.append(&mut piece, &[number])
     }
 
     fn arm(&mut self, steps: u32) {
-        self.disk.arm(steps);
+        self.records.arm(steps);
     }
 }
 
-/// Brings the disk of a log up, and counts its numbers: the disk's own restart, a test of its size,
-/// a sync, and a read of each record to the last one. It writes nothing.
-///
-/// Refused with `Device` where a device step failed, and with `Damaged` where the disk has no size
-/// of a log's, or keeps no list.
-fn bring_up<D: Disk>(disk: &mut D) -> Result<u64, StoreFault>
-    ensures up { IfOk result
-        (IsLogUp (D.meaning.state_of disk.old) (D.meaning.state_of disk.new)) }
-    ensures failed { IfErr result
-        (LogUpFailed (D.meaning.state_of disk.old) (D.meaning.state_of disk.new)) }
+/// The number in the bytes of a record.
+fn number_of(record: &[u8; RECORD_LENGTH]) -> Ksn
+    ensures { result ≡ number_in «record».now }
 {
-    open_log(disk)?;
-    count_records(disk)
+    let mut number = [0; 10];
+    number.copy_from_slice(&record[1..11]);
+    Ksn::from_bytes(number)
 }

@@ -7,7 +7,7 @@ use crate::security_module::security_module;
 use duk_frame::Frame;
 use duk_host::HostFault;
 use duk_journal::DiskJournal;
-use duk_line::{Group, JournalHost};
+use duk_journal_host::{Group, JournalHost};
 use duk_store::{MemDisk, StoreFault};
 use duk_tests_support::frames::{FIRST_REVERSAL, REQUEST_OF_500, SECOND_REQUEST, THIRD_REQUEST};
 use std::alloc::Global;

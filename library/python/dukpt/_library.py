@@ -4,7 +4,7 @@ from __future__ import annotations
 import ctypes
 import os
 from pathlib import Path
-from typing import Final, Iterable, Iterator, Union
+from typing import Any, Final, Iterable, Iterator, Union
 
 from ._exports import EXPORTS, Kind
 from ._version import demand_version, version_text
@@ -13,6 +13,8 @@ from .faults import FAULTS, DukptError, Length
 NAME: Final = "libdukpt.so.0"
 VARIABLE: Final = "DUKPT_LIBRARY"
 HERE: Final = Path(__file__).resolve().parent
+# What C has alone, and answers no status.
+WIPE: Final = "dukpt_wipe_host_stack"
 LARGEST_NUMBER: Final = (1 << 32) - 1
 
 # Whatever has bytes is copied before a call, so that nothing changes them meanwhile.
@@ -64,17 +66,24 @@ def typed(library: ctypes.CDLL) -> ctypes.CDLL:
     demand_version(library._name, library.dukpt_version())
     for name in EXPORTS:
         give_types(library, name)
+    wipe = export_of(library, WIPE)
+    wipe.argtypes, wipe.restype = [], None
     return library
 
 
 def give_types(library: ctypes.CDLL, name: str) -> None:
-    """Sets the types of an export. It raises ImportError where the library has none."""
-    try:
-        export = getattr(library, name)
-    except AttributeError as why:
-        raise ImportError(f"{library._name} has no {name}: it is no {NAME}") from why
+    """Sets the types of an export."""
+    export = export_of(library, name)
     export.argtypes = [it for kind in EXPORTS[name].values() for it in TYPES[kind]]
     export.restype = ctypes.c_uint32
+
+
+def export_of(library: ctypes.CDLL, name: str) -> Any:
+    """A function of the library. It raises ImportError where the library has none."""
+    try:
+        return getattr(library, name)
+    except AttributeError as why:
+        raise ImportError(f"{library._name} has no {name}: it is no {NAME}") from why
 
 
 LIBRARY: Final = typed(loaded())
@@ -161,6 +170,13 @@ def call(name: str, **given: Given) -> None:
         raise Length(lengths(name, given))
     if status:
         raise fault_of(status)
+
+
+def wipe_host_stack() -> None:
+    """Overwrites what the two steps of a host left on this thread's stack. It is called in the way of
+    `call`, so that it begins no deeper than they did."""
+    words: list[object] = []
+    getattr(LIBRARY, WIPE)(*words)
 
 
 def fault_of(status: int) -> DukptError:

@@ -5,7 +5,8 @@
 //! memory.
 //!
 //! What is secret is a [`Key`] or a [`Secret`], which is not printed and does not outlive its place.
-//! The working copies that a call leaves on the stack stay there.
+//! The working copies that a call leaves on the stack stay there, but for those of a [`Module`]'s two
+//! steps.
 //!
 //! ```
 //! use dukpt::{Key, Ksn};

@@ -4,7 +4,7 @@ use crate::bytes::Bytes;
 use crate::fault::{done, Fault};
 use crate::requests::place_in;
 use crate::shown::Hexadecimal;
-use crate::wipe::Wiped;
+use crate::wipe::{wipe_host_stack, Wiped};
 use crate::{calls, Frame, Ksn, Reversal, ReversalState, Secret, TdesKey};
 use core::fmt;
 
@@ -99,8 +99,8 @@ pub fn card(pan: &[u8], pin: &[u8], limit: u32) -> Result<Secret<CARD>, Fault> {
 ///
 /// [`judge`](Module::judge) tells what frames are, whatever the book keeps. The book settles those
 /// that are authentic, and [`answer`](Module::answer) makes their answers. Neither keeps anything,
-/// so that threads may share a module. It is not printed, and is overwritten with zeros when it is
-/// dropped. To move it can leave its bytes where it was before: from then on, a `Box` keeps it in
+/// so that threads may share a module. Both overwrite what they left on the stack. It is not
+/// printed, and is overwritten with zeros when it is dropped. To move it can leave its bytes where it was before: from then on, a `Box` keeps it in
 /// one place.
 ///
 /// ```
@@ -172,6 +172,10 @@ impl Module {
         judged: &mut [Judged],
     ) -> Result<(), Fault> {
         let judged = judged.get_mut(..frames.len()).ok_or(Fault::Length)?;
+        if frames.is_empty() {
+            // Keys and cards are refused where there is no frame, too.
+            return self.judge_places(cards, &[], &mut []);
+        }
         for (frames, judged) in frames.chunks(GROUP).zip(judged.chunks_mut(GROUP)) {
             let mut places = [0; PLACE * GROUP];
             for (place, frame) in places.chunks_exact_mut(PLACE).zip(frames) {
@@ -179,12 +183,19 @@ impl Module {
             }
             let (mut found, size) = ([0; PLACE * GROUP], PLACE * frames.len());
             let (places, found) = (&places[..size], &mut found[..size]);
-            done(calls::host_judge(&self.0 .0, cards, places, found))?;
+            self.judge_places(cards, places, found)?;
             for (one, place) in judged.iter_mut().zip(found.chunks_exact(PLACE)) {
                 *one = judged_in(place);
             }
         }
         Ok(())
+    }
+
+    /// Writes what the frames of places are.
+    fn judge_places(&self, cards: &[u8], places: &[u8], found: &mut [u8]) -> Result<(), Fault> {
+        let status = calls::host_judge(&self.0 .0, cards, places, found);
+        wipe_host_stack();
+        done(status)
     }
 
     /// Writes the frames of the answers to what the book settled in the front of a slice with room
@@ -201,7 +212,9 @@ impl Module {
             }
             let (mut found, size) = ([0; PLACE * GROUP], PLACE * settled.len());
             let found = &mut found[..size];
-            done(calls::host_answer(&self.0 .0, &places[..size], found))?;
+            let status = calls::host_answer(&self.0 .0, &places[..size], found);
+            wipe_host_stack();
+            done(status)?;
             for (answer, place) in answers.iter_mut().zip(found.chunks_exact(PLACE)) {
                 done(u32::from(place[0]))?;
                 *answer = frame_in(place);

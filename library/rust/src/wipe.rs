@@ -1,9 +1,22 @@
-//! Bytes that are zeros once they are dropped, and are compared without telling where they differ.
+//! Bytes that are zeros once they are dropped, and are compared without telling where they differ; and
+//! the stack below calls of a host.
 
 #![allow(unsafe_code)]
 
 use core::ptr;
 use core::sync::atomic::{compiler_fence, Ordering};
+
+extern "C" {
+    fn dukpt_wipe_host_stack();
+}
+
+/// Overwrites what the calls of a host that its caller made may have left on the stack.
+#[inline(always)]
+pub fn wipe_host_stack() {
+    // SAFETY: it takes nothing, and writes below its own caller's frame alone, as deep as the calls
+    // before it went.
+    unsafe { dukpt_wipe_host_stack() };
+}
 
 /// Bytes that are overwritten with zeros when they are dropped.
 pub struct Wiped<const N: usize>(pub [u8; N]);

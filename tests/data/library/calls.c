@@ -17,6 +17,8 @@
      | STATUS(FAULT_BLOCK_HEADER_FIELD) | STATUS(FAULT_BLOCK_OPTIONAL_BLOCK)                       \
      | STATUS(FAULT_BLOCK_HEX) | STATUS(FAULT_BLOCK_MAC) | STATUS(FAULT_BLOCK_PAYLOAD))
 
+#define LOADS (KEY_BLOCKS | STATUS(FAULT_NOT_A_MODULE) | STATUS(FAULT_WRONG_USE))
+
 #define IN(size) {BYTES, EXACTLY, size, size, DUKPT_FAULT_LENGTH}
 #define OUT(size) {BUFFER, ROOM, size, size, DUKPT_FAULT_LENGTH}
 #define IN_OUT(size) {BUFFER, EXACTLY, size, size, DUKPT_FAULT_LENGTH}
@@ -124,6 +126,17 @@ const struct call calls[] = {
     {CALL(check_reversal_reply), draw_reversal_reply_of_key,
      LENGTHS | STATUS(FAULT_NOT_A_REVERSAL_REPLY) | STATUS(FAULT_NOT_MINE) | STATUS(FAULT_BAD_MAC),
      {KEY_IN, KSN_IN, KSN_IN, FRAME_IN(DUKPT_FAULT_NOT_A_REVERSAL_REPLY)}},
+    {CALL(module_new), NULL, LENGTHS, {TDES_KEY, OUT(4706)}},
+    {CALL(module_load_bdk), draw_loading_base,
+     LOADS | STATUS(FAULT_PREFIX_TAKEN) | STATUS(FAULT_SLOTS_FULL),
+     {IN(5), BLOCK_IN, IN_OUT(4706)}},
+    {CALL(module_load_zone), draw_loading_zone, LOADS | STATUS(FAULT_ZONE_TAKEN),
+     {BLOCK_IN, IN_OUT(4706)}},
+    {CALL(host_judge), draw_judging,
+     LENGTHS | STATUS(FAULT_NOT_A_MODULE) | STATUS(FAULT_NO_ZONE) | STATUS(FAULT_NOT_A_CARD),
+     {IN(4706), PARTS_IN(37), PARTS_IN(64), FOR_EACH_OUT(64)}},
+    {CALL(host_answer), draw_answering, LENGTHS | STATUS(FAULT_NOT_A_MODULE),
+     {IN(4706), PARTS_IN(64), FOR_EACH_OUT(64)}},
     {CALL(frame_length), draw_stream,
      STATUS(OK) | STATUS(FAULT_PART_OF_FRAME) | STATUS(FAULT_TOO_LONG),
      {{BYTES, AT_LEAST, 2, 70, DUKPT_FAULT_PART_OF_FRAME}, COUNT_OUT}},

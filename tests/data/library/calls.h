@@ -7,7 +7,7 @@
 #include <stddef.h>
 #include <stdint.h>
 
-enum { MOST_ARGUMENTS = 7, MOST_BYTES = 8448 };
+enum { MOST_ARGUMENTS = 7, MOST_BYTES = 9472 };
 
 /* What an argument is: bytes that are read, bytes that are written, a number that is written, a
    number that is read. */

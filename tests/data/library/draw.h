@@ -36,8 +36,15 @@ void draw_wrapping_with(struct chance *chance, struct argument *given);
 void draw_key_block(struct chance *chance, struct argument *given);
 void draw_wanted(struct chance *chance, struct argument *given);
 void draw_optional(struct chance *chance, struct argument *given);
+/* The text of a key block with these fields of its header under a protection key, or what is none. */
+void draw_text_with(struct chance *chance, const struct argument *kbpk, const uint8_t *fields,
+                    struct argument *text);
+/* The text of a key block with these fields and this key. */
+void put_text(struct chance *chance, const struct argument *kbpk, const char *fields,
+              const uint8_t *key, size_t size, struct argument *text);
 
 /* draw_frames.c */
+const uint8_t *draw_code_of_five(struct chance *chance);
 void draw_request(struct chance *chance, struct argument *given);
 void draw_request_of_key(struct chance *chance, struct argument *given);
 void draw_requests(struct chance *chance, struct argument *given);
@@ -51,5 +58,11 @@ void draw_reversal_of_key(struct chance *chance, struct argument *given);
 void draw_reversal_reply(struct chance *chance, struct argument *given);
 void draw_reversal_reply_of_key(struct chance *chance, struct argument *given);
 void draw_stream(struct chance *chance, struct argument *given);
+
+/* draw_hosts.c */
+void draw_loading_base(struct chance *chance, struct argument *given);
+void draw_loading_zone(struct chance *chance, struct argument *given);
+void draw_judging(struct chance *chance, struct argument *given);
+void draw_answering(struct chance *chance, struct argument *given);
 
 #endif

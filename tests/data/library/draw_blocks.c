@@ -144,19 +144,15 @@ static void spoil_length(struct chance *chance, struct argument *text)
         memcpy(text->bytes + 1, said, 4);
 }
 
-/* The text of a key block with so many optional blocks under a protection key, or what is none.
-   Mostly its key is of algorithm T. */
-static void draw_text(struct chance *chance, const struct argument *kbpk, uint32_t count,
-                      struct argument *text)
+/* The text of a key block with so many optional blocks under a protection key, or what is none. */
+static void draw_text_of(struct chance *chance, const struct argument *kbpk, const uint8_t *fields,
+                         uint32_t count, struct argument *text)
 {
-    uint8_t front[MOST_FRONT], fields[HEADER_BYTES + 1] = {0}, payload[MOST_PAYLOAD];
+    uint8_t front[MOST_FRONT], payload[MOST_PAYLOAD];
     size_t front_size = put_optional_blocks(chance, front, FRONT_BYTES, count);
     size_t size = draw_payload(chance, payload);
     char head[FRONT_BYTES + 1];
-    draw_printed(chance, fields, HEADER_BYTES);
-    if (!one_in(chance, 6))
-        fields[ALGORITHM] = 'T';
-    snprintf(head, sizeof head, "B%04u%s%02u00", (unsigned)(front_size + 2 * size + 16) % 10000,
+    snprintf(head, sizeof head, "B%04u%.7s%02u00", (unsigned)(front_size + 2 * size + 16) % 10000,
              (const char *)fields, (unsigned)count);
     memcpy(front, head, FRONT_BYTES);
     if (one_in(chance, 8))
@@ -168,6 +164,17 @@ static void draw_text(struct chance *chance, const struct argument *kbpk, uint32
         spoil_digits(chance, text->bytes + front_size, text->size - front_size);
     if (one_in(chance, 12))
         spoil_length(chance, text);
+}
+
+/* The same with fields at random. Mostly its key is of algorithm T. */
+static void draw_text(struct chance *chance, const struct argument *kbpk, uint32_t count,
+                      struct argument *text)
+{
+    uint8_t fields[HEADER_BYTES];
+    draw_printed(chance, fields, HEADER_BYTES);
+    if (!one_in(chance, 6))
+        fields[ALGORITHM] = 'T';
+    draw_text_of(chance, kbpk, fields, count, text);
 }
 
 static uint32_t draw_count(struct chance *chance)
@@ -206,4 +213,23 @@ void draw_optional(struct chance *chance, struct argument *given)
     }
     if (at + 2 <= text->size && !one_in(chance, 12))
         memcpy(given[2].bytes, text->bytes + at, 2);
+}
+
+void draw_text_with(struct chance *chance, const struct argument *kbpk, const uint8_t *fields,
+                    struct argument *text)
+{
+    draw_text_of(chance, kbpk, fields, draw_count(chance), text);
+}
+
+void put_text(struct chance *chance, const struct argument *kbpk, const char *fields,
+              const uint8_t *key, size_t size, struct argument *text)
+{
+    uint8_t payload[MOST_PAYLOAD] = {0, (uint8_t)(8 * size)};
+    char front[FRONT_BYTES + 1];
+    memcpy(payload + 2, key, size);
+    draw_bytes(chance, payload + 2 + size, 6);
+    snprintf(front, sizeof front, "B%04u%.7s0000", (unsigned)(FRONT_BYTES + 2 * (size + 16)),
+             fields);
+    text->size = sealed(kbpk->bytes, kbpk->size, (const uint8_t *)front, FRONT_BYTES, payload,
+                        size + 8, text->bytes);
 }

@@ -17,7 +17,7 @@ static void spoil_frame(struct chance *chance, struct argument *frame)
         frame->bytes[below(chance, (uint32_t)frame->size)] ^= (uint8_t)(1u << below(chance, 8));
 }
 
-static const uint8_t *draw_code_of_five(struct chance *chance)
+const uint8_t *draw_code_of_five(struct chance *chance)
 {
     static const uint8_t codes[][2] = {{'0', '0'}, {'1', '4'}, {'3', '0'}, {'5', '1'}, {'5', '5'}};
     return codes[below(chance, 5)];

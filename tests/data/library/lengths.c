@@ -50,7 +50,8 @@ static int is_right(const struct call *call, const struct argument *given, size_
         return size % 8 == 0;
     case PARTS:
         return size % parameter->least == 0
-               && given[at + 1].size >= size_for_each(call, given, at + 1);
+               && (parameter[1].sizes != FOR_EACH
+                   || given[at + 1].size >= size_for_each(call, given, at + 1));
     case FOR_EACH:
         return size >= size_for_each(call, given, at);
     case AS_DRAWN:

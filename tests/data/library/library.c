@@ -249,6 +249,31 @@ uint32_t library_check_reversal_reply(const struct argument *given)
     return dukpt_check_reversal_reply(SLICE_AT(0), SLICE_AT(1), SLICE_AT(2), SLICE_AT(3));
 }
 
+uint32_t library_module_new(const struct argument *given)
+{
+    return dukpt_module_new(SLICE_AT(0), SLICE_AT(1));
+}
+
+uint32_t library_module_load_bdk(const struct argument *given)
+{
+    return dukpt_module_load_bdk(SLICE_AT(0), SLICE_AT(1), SLICE_AT(2));
+}
+
+uint32_t library_module_load_zone(const struct argument *given)
+{
+    return dukpt_module_load_zone(SLICE_AT(0), SLICE_AT(1));
+}
+
+uint32_t library_host_judge(const struct argument *given)
+{
+    return dukpt_host_judge(SLICE_AT(0), SLICE_AT(1), SLICE_AT(2), SLICE_AT(3));
+}
+
+uint32_t library_host_answer(const struct argument *given)
+{
+    return dukpt_host_answer(SLICE_AT(0), SLICE_AT(1), SLICE_AT(2));
+}
+
 uint32_t library_frame_length(const struct argument *given)
 {
     return dukpt_frame_length(SLICE_AT(0), COUNT_AT(1));

@@ -51,6 +51,11 @@ uint32_t library_check_reversal(const struct argument *given);
 uint32_t library_reversal_reply(const struct argument *given);
 uint32_t library_read_reversal_reply(const struct argument *given);
 uint32_t library_check_reversal_reply(const struct argument *given);
+uint32_t library_module_new(const struct argument *given);
+uint32_t library_module_load_bdk(const struct argument *given);
+uint32_t library_module_load_zone(const struct argument *given);
+uint32_t library_host_judge(const struct argument *given);
+uint32_t library_host_answer(const struct argument *given);
 uint32_t library_frame_length(const struct argument *given);
 
 #endif

@@ -52,6 +52,11 @@ uint32_t peer_check_reversal(struct argument *given);
 uint32_t peer_reversal_reply(struct argument *given);
 uint32_t peer_read_reversal_reply(struct argument *given);
 uint32_t peer_check_reversal_reply(struct argument *given);
+uint32_t peer_module_new(struct argument *given);
+uint32_t peer_module_load_bdk(struct argument *given);
+uint32_t peer_module_load_zone(struct argument *given);
+uint32_t peer_host_judge(struct argument *given);
+uint32_t peer_host_answer(struct argument *given);
 uint32_t peer_frame_length(struct argument *given);
 
 #endif

@@ -230,14 +230,8 @@ static uint32_t read_front(const struct argument *text, size_t *at)
     return *at == 0 ? DUKPT_FAULT_BLOCK_OPTIONAL_BLOCK : DUKPT_OK;
 }
 
-/* The key in a text. */
-struct wrapped {
-    uint8_t key[TRIPLE_BYTES];
-    size_t size;
-};
-
-static uint32_t unwrap(const struct argument *kbpk, const struct argument *text,
-                       struct wrapped *found)
+uint32_t unwrap_text(const struct argument *kbpk, const struct argument *text,
+                     struct wrapped *found)
 {
     uint8_t payload[MOST_PAYLOAD];
     size_t at, size;
@@ -259,7 +253,7 @@ uint32_t peer_unwrap(struct argument *given)
     uint32_t status = DUKPT_FAULT_LENGTH;
     if (is_tdes_size(given[0].size) && has_room(&given[2], HEADER_BYTES)
         && has_room(&given[3], TRIPLE_BYTES))
-        status = unwrap(&given[0], &given[1], &found);
+        status = unwrap_text(&given[0], &given[1], &found);
     if (status != DUKPT_OK)
         return status;
     write_bytes(&given[2], given[1].bytes + FIELDS_AT, HEADER_BYTES);
@@ -274,7 +268,7 @@ uint32_t peer_unwrap_for(struct argument *given)
     uint32_t status = DUKPT_FAULT_LENGTH;
     if (is_tdes_size(given[0].size) && given[1].size == 2 && is_tdes_size(given[2].number)
         && has_room(&given[4], TRIPLE_BYTES))
-        status = unwrap(&given[0], text, &found);
+        status = unwrap_text(&given[0], text, &found);
     if (status != DUKPT_OK)
         return status;
     if (memcmp(text->bytes + FIELDS_AT, given[1].bytes, 2) != 0
@@ -293,7 +287,7 @@ uint32_t peer_unwrap_optional(struct argument *given)
     size_t at = FRONT_BYTES;
     uint32_t status = DUKPT_FAULT_LENGTH;
     if (is_tdes_size(given[0].size) && given[2].size == 2 && has_room(&given[3], MOST_CONTENT))
-        status = unwrap(&given[0], text, &found);
+        status = unwrap_text(&given[0], text, &found);
     if (status != DUKPT_OK)
         return status;
     for (int count = said_count(text); count > 0; count--) {

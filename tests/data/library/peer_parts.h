@@ -22,7 +22,11 @@ enum {
     MOST_TEXT = 512,
     MOST_PAYLOAD = 256,
     FRAME_BYTES = 64,
-    LONGEST_CONTENTS = 62
+    LONGEST_CONTENTS = 62,
+    MODULE_BYTES = 4706,
+    PREFIX_BYTES = 5,
+    MOST_KEY_SETS = 8,
+    CARD_BYTES = 37
 };
 
 /* peer_arguments.c: what is asked of arguments, and written into them. */
@@ -89,6 +93,29 @@ uint32_t fault_of_pan(const struct argument *pan);
 size_t optional_length(const uint8_t *text, size_t at, size_t end);
 size_t sealed(const uint8_t *kbpk, size_t kbpk_size, const uint8_t *front, size_t front_size,
               const uint8_t *payload, size_t payload_size, uint8_t *text);
+/* Gives the first fault of a text, or the key in it. */
+struct wrapped {
+    uint8_t key[TRIPLE_BYTES];
+    size_t size;
+};
+uint32_t unwrap_text(const struct argument *kbpk, const struct argument *text,
+                     struct wrapped *found);
+
+/* peer_modules.c: the security module of a host, and its bytes. */
+enum kind_of_key { BASE_KEY, ZONE_KEY };
+struct module {
+    uint8_t lmk[TRIPLE_BYTES], zone[TRIPLE_BYTES];
+    size_t lmk_size, zone_size, key_sets;
+    uint8_t prefixes[MOST_KEY_SETS][PREFIX_BYTES], bases[MOST_KEY_SETS][KEY_BYTES];
+};
+/* Reads the bytes of a module, if they are one. */
+int read_module(uint8_t *image, struct module *module);
+/* Writes the bytes of a module that has its local master key alone. */
+void begin_module(const uint8_t *lmk, size_t size, uint8_t *image);
+void append_entry(uint8_t *image, enum kind_of_key kind, const uint8_t *prefix,
+                  const struct argument *text);
+/* The base derivation key for a number, or none. */
+const uint8_t *base_key(const struct module *module, const uint8_t *ksn);
 
 /* peer_frames.c: frames. Each that writes gives the number of the frame's bytes. */
 struct request {

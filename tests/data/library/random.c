@@ -2,6 +2,7 @@
 
        random SEED CASES PRINTED [exact]
 
+   Of a call over a security module, which takes longer, there are a tenth of the CASES.
    The first PRINTED cases of each call are printed: `case NAME`, the arguments before, `->`, the
    status, and the arguments after. At the end comes a line for each call, with how many cases had
    each status: `done NAME STATUS:CASES ..`. With `exact` each slice has memory of its own. Else,
@@ -16,7 +17,7 @@
 #include <stdlib.h>
 #include <string.h>
 
-enum { STATUSES = 37, ENOUGH = 10000 };
+enum { STATUSES = 46, ENOUGH = 10000, TENTH = 10 };
 
 /* Gives one slice of a case another size, up to twice as long. */
 static void spoil_size(struct chance *chance, const struct call *call, struct argument *given)
@@ -52,6 +53,13 @@ static void report_statuses(const struct call *call, const long found[STATUSES],
     printf("\n");
 }
 
+/* How many cases a call has: a tenth where each unwraps the key blocks of a module. */
+static long cases_of(const struct call *call, long cases)
+{
+    int unwraps = call->statuses >> DUKPT_FAULT_NOT_A_MODULE & 1;
+    return unwraps ? (cases + TENTH - 1) / TENTH : cases;
+}
+
 static void try_call(struct trial *trial, struct chance *chance, const struct call *call,
                      long cases, long printed)
 {
@@ -83,7 +91,7 @@ int main(int words, char **word)
     open_trial(&trial, !is_exact);
     chance.state = strtoull(word[1], NULL, 10);
     for (size_t i = 0; i < call_count; i++)
-        try_call(&trial, &chance, &calls[i], atol(word[2]), atol(word[3]));
+        try_call(&trial, &chance, &calls[i], cases_of(&calls[i], atol(word[2])), atol(word[3]));
     close_trial(&trial);
     return 0;
 }

@@ -1,6 +1,6 @@
 /* The calls with keys that are secret:
 
-       valgrind secrets SEED CASES KEYS [branch | CALL]
+       valgrind secrets SEED CASES KEYS [branch | CALL | pin PLACE]
 
    CASES cases of each call are drawn. Each key among the arguments, those in an image too, is drawn
    anew of the seed KEYS alone, and marked as undefined. So memcheck reports each branch and each
@@ -8,7 +8,8 @@
    if no branch depends on a key or on what is made of it. Of calls that compare what they make of a
    key, as a MAC, the answer is no secret: they are left out, but for `dukpt_check_requests`, which
    compares without a branch. With `branch` the program itself branches on a key, which has to be
-   seen. With a call's name it is the only one. */
+   seen. With a call's name it is the only one. With `pin` a request is judged alone, against a card
+   whose PIN of six digits is another at PLACE, or the same behind its end: the code is printed. */
 #include "calls.h"
 #include "draw.h"
 #include "peer_parts.h"
@@ -26,7 +27,8 @@ static int compares(const struct call *call)
 {
     static const uint64_t told = UINT64_C(1) << DUKPT_FAULT_BAD_MAC
                                  | UINT64_C(1) << DUKPT_FAULT_BLOCK_MAC
-                                 | UINT64_C(1) << DUKPT_FAULT_NOT_A_PIN_BLOCK;
+                                 | UINT64_C(1) << DUKPT_FAULT_NOT_A_PIN_BLOCK
+                                 | UINT64_C(1) << DUKPT_FAULT_NOT_A_MODULE;
     return (call->statuses & told) != 0;
 }
 
@@ -103,15 +105,52 @@ static void branch_on_key(struct chance *keys)
         count++;
 }
 
+/* Judges a request. The digits of PINs are looked at, and so are the same ones at each place. */
+static void judge_pin(struct chance *chance, size_t place)
+{
+    static const uint8_t pan[] = "4012345678909", pin[] = "123456";
+    static const uint8_t ksn[KSN_BYTES] = {1, 2, 3, 4, 5, 0, 0, 0, 0, 1};
+    enum { PAN_DIGITS = sizeof pan - 1, PIN_DIGITS = sizeof pin - 1, PIN_AT = 21 };
+    uint8_t keys[3][KEY_BYTES], key[KEY_BYTES], bytes[MOST_TEXT], image[MODULE_BYTES];
+    uint8_t card[CARD_BYTES] = {PAN_DIGITS}, frame[FRAME_BYTES] = {0}, judged[FRAME_BYTES];
+    struct argument lmk = {keys[0], KEY_BYTES, 0}, text = {bytes, 0, 0};
+    struct request request = {.pan_digits = PAN_DIGITS};
+    draw_bytes(chance, keys[0], sizeof keys);
+    begin_module(keys[0], KEY_BYTES, image);
+    put_text(chance, &lmk, "B0TX00N", keys[1], KEY_BYTES, &text);
+    append_entry(image, BASE_KEY, ksn, &text);
+    put_text(chance, &lmk, "P0TB00N", keys[2], KEY_BYTES, &text);
+    append_entry(image, ZONE_KEY, ksn, &text);
+    memcpy(request.ksn, ksn, sizeof ksn);
+    memcpy(request.pan, pan, PAN_DIGITS);
+    block_of_pin(pin, PIN_DIGITS, pan, PAN_DIGITS, request.block);
+    tree_derived_key(keys[1], ksn, key);
+    write_request(key, &request, frame);
+    memcpy(card + 1, pan, PAN_DIGITS);
+    card[PIN_AT - 1] = PIN_DIGITS;
+    memcpy(card + PIN_AT, pin, PIN_DIGITS);
+    if (place < PIN_DIGITS)
+        card[PIN_AT + place] ^= 1;
+    if (dukpt_host_judge(image, sizeof image, card, sizeof card, frame, sizeof frame, judged,
+                         sizeof judged)
+        != DUKPT_OK)
+        exit(1);
+    printf("code %.2s\n", (const char *)judged + 16);
+}
+
 int main(int words, char **word)
 {
     struct chance chance, keys;
     struct argument given[MOST_ARGUMENTS] = {{0}};
     int is_branching;
-    if (words != 4 && words != 5)
+    if (words < 4 || words > 6)
         return 2;
     chance.state = strtoull(word[1], NULL, 10);
     keys.state = strtoull(word[3], NULL, 10);
+    if (words == 6) {
+        judge_pin(&chance, word[5][0] - '0');
+        return 0;
+    }
     for (size_t at = 0; at < MOST_ARGUMENTS; at++)
         if ((given[at].bytes = calloc(1, MOST_BYTES)) == NULL)
             return 1;

@@ -3,13 +3,15 @@
        stack SEED CASES
 
    CASES cases of each call are drawn. Each runs on a stack that is painted before, once without and
-   once with dukpt_wipe_stack behind it. A line for each call has how many bytes below its caller it
-   used at most, and in how many cases a key or a PIN of its arguments was there afterwards, without
-   and with the wipe: `done NAME BYTES FOUND LEFT`. The last line has how many bytes the wipe itself
-   leaves as they were, of those DUKPT_STACK_BYTES below its caller: `wipe BYTES`. */
+   once with the call's wipe behind it: dukpt_wipe_host_stack for the two steps of a host, and
+   dukpt_wipe_stack for all others. A line for each call has how many bytes below its caller it used
+   at most, and in how many cases a key or a PIN of its arguments was there afterwards, without and
+   with the wipe: `done NAME BYTES FOUND LEFT`. The last lines have how many bytes each wipe itself
+   leaves as they were, of those that it is to overwrite: `wipe NAME BYTES`. */
 #define _GNU_SOURCE
 #include "calls.h"
 #include "draw.h"
+#include "peer_parts.h"
 
 #include <dukpt.h>
 #include <stdio.h>
@@ -17,7 +19,19 @@
 #include <string.h>
 #include <ucontext.h>
 
-enum { STACK_BYTES = 1 << 18, PAINTS = 2, KEY_PART = 8, LEAST_PIN_SOUGHT = 6 };
+enum { STACK_BYTES = 1 << 19, PAINTS = 2, KEY_PART = 8, LEAST_PIN_SOUGHT = 6, CARD_PIN_AT = 21 };
+
+struct wipe {
+    const char *name;
+    void (*wipe)(void);
+    /* How deep it is to reach. */
+    size_t bytes;
+};
+
+static const struct wipe wipes[] = {
+    {"stack", dukpt_wipe_stack, DUKPT_STACK_BYTES},
+    {"host_stack", dukpt_wipe_host_stack, DUKPT_HOST_STACK_BYTES},
+};
 
 static const uint8_t paints[PAINTS] = {0xA5, 0x5A};
 /* What a case leaves on the stack, for each paint. */
@@ -28,7 +42,7 @@ static uint8_t stack[PAINTS][STACK_BYTES] __attribute__((aligned(4096)));
 static struct {
     const struct call *call;
     struct argument arguments[MOST_ARGUMENTS];
-    int wipes;
+    const struct wipe *wipe;
     uint8_t *bottom;
     ucontext_t main, painted;
 } run;
@@ -38,8 +52,8 @@ static void run_case(void)
     __asm__ volatile("mov %%rsp, %0" : "=r"(run.bottom));
     if (run.call != NULL)
         run.call->library(run.arguments);
-    if (run.wipes)
-        dukpt_wipe_stack();
+    if (run.wipe != NULL)
+        run.wipe->wipe();
 }
 
 /* Runs a case on a stack that is painted before. */
@@ -57,7 +71,7 @@ static void run_painted(int paint)
 }
 
 /* Runs a case once for each paint, with arguments of its own each time. */
-static void run_all(const struct call *call, const struct argument *given, int wipes)
+static void run_all(const struct call *call, const struct argument *given, const struct wipe *wipe)
 {
     static uint8_t bytes[MOST_ARGUMENTS][MOST_BYTES];
     for (int paint = 0; paint < PAINTS; paint++) {
@@ -67,7 +81,7 @@ static void run_all(const struct call *call, const struct argument *given, int w
             memcpy(bytes[at], given[at].bytes, given[at].size);
         }
         run.call = call;
-        run.wipes = wipes;
+        run.wipe = wipe;
         run_painted(paint);
     }
 }
@@ -120,6 +134,38 @@ static int is_pin(const struct parameter *parameter, const struct argument *give
            && given->size <= parameter->most;
 }
 
+/* Whether a key, or a half or a third of it, is on the stack. */
+static int is_key_there(const uint8_t *key, size_t size)
+{
+    for (size_t part = 0; part + KEY_PART <= size; part += KEY_PART)
+        if (is_there(key + part, KEY_PART))
+            return 1;
+    return 0;
+}
+
+/* Whether a key is on the stack that a security module holds, if these are the bytes of one. */
+static int has_key_of_module(const struct argument *image)
+{
+    struct module module;
+    if (image->size != MODULE_BYTES || !read_module(image->bytes, &module))
+        return 0;
+    for (size_t at = 0; at < module.key_sets; at++)
+        if (is_key_there(module.bases[at], KEY_BYTES))
+            return 1;
+    return is_key_there(module.lmk, module.lmk_size) || is_key_there(module.zone, module.zone_size);
+}
+
+/* Whether the PIN of a card is on the stack. */
+static int has_pin_of_card(const struct argument *cards)
+{
+    for (size_t at = 0; at + CARD_BYTES <= cards->size; at += CARD_BYTES) {
+        const uint8_t *pin = cards->bytes + at + CARD_PIN_AT;
+        if (pin[-1] >= LEAST_PIN_SOUGHT && pin[-1] <= 12 && is_there(pin, pin[-1]))
+            return 1;
+    }
+    return 0;
+}
+
 /* Whether a PIN or a key among arguments, or a half or a third of a key, is on the stack. */
 static int has_secret(const struct call *call, const struct argument *arguments)
 {
@@ -128,9 +174,12 @@ static int has_secret(const struct call *call, const struct argument *arguments)
         const struct argument *it = &arguments[at];
         if (is_pin(parameter, it) && is_there(it->bytes, it->size))
             return 1;
-        for (size_t part = 0; is_key(parameter) && part + KEY_PART <= it->size; part += KEY_PART)
-            if (is_there(it->bytes + part, KEY_PART))
-                return 1;
+        if (is_key(parameter) && is_key_there(it->bytes, it->size))
+            return 1;
+        if (parameter->most == MODULE_BYTES && has_key_of_module(it))
+            return 1;
+        if (parameter->sizes == PARTS && parameter->least == CARD_BYTES && has_pin_of_card(it))
+            return 1;
     }
     return 0;
 }
@@ -139,6 +188,11 @@ static int has_secret(const struct call *call, const struct argument *arguments)
 static int leaves_secret(const struct call *call, const struct argument *given)
 {
     return has_secret(call, given) || has_secret(call, run.arguments);
+}
+
+static const struct wipe *wipe_of(const struct call *call)
+{
+    return &wipes[strncmp(call->name, "dukpt_host_", strlen("dukpt_host_")) == 0];
 }
 
 static void try_call(struct chance *chance, const struct call *call, long cases)
@@ -151,22 +205,22 @@ static void try_call(struct chance *chance, const struct call *call, long cases)
         given[at].bytes = bytes[at];
     for (; cases > 0; cases--) {
         draw_arguments(chance, call, given);
-        run_all(call, given, 0);
+        run_all(call, given, NULL);
         deepest = depth() > deepest ? depth() : deepest;
         found += leaves_secret(call, given);
-        run_all(call, given, 1);
+        run_all(call, given, wipe_of(call));
         left += leaves_secret(call, given);
     }
     printf("done %s %lu %ld %ld\n", call->name, (unsigned long)deepest, found, left);
 }
 
-static void try_wipe(void)
+static void try_wipe(const struct wipe *wipe)
 {
     long left = 0;
-    run_all(NULL, NULL, 1);
-    for (size_t place = bottom() - DUKPT_STACK_BYTES; place < bottom(); place++)
+    run_all(NULL, NULL, wipe);
+    for (size_t place = bottom() - wipe->bytes; place < bottom(); place++)
         left += is_painted(place);
-    printf("wipe %ld\n", left);
+    printf("wipe %s %ld\n", wipe->name, left);
 }
 
 int main(int words, char **word)
@@ -177,6 +231,7 @@ int main(int words, char **word)
     chance.state = strtoull(word[1], NULL, 10);
     for (size_t at = 0; at < call_count; at++)
         try_call(&chance, &calls[at], atol(word[2]));
-    try_wipe();
+    for (size_t at = 0; at < sizeof wipes / sizeof *wipes; at++)
+        try_wipe(&wipes[at]);
     return 0;
 }

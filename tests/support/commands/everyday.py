@@ -1,6 +1,6 @@
 """What the commands of every day write, by docs/COMMANDS.md: their lines, or the first fault.
 
-It has `initial`, `registers`, `kcv`, `mac`, `data`, `unpin`, `translate`, `request` and `reply`, and `derive`
+It has `initial`, `registers`, `kcv`, `lmk`, `mac`, `data`, `unpin`, `translate`, `request` and `reply`, and `derive`
 and `walk` with all of their options, over the ciphers of the bench. `everyday_words` has what stands
 before them: how arguments are read, and secrets by reference.
 """
@@ -21,7 +21,7 @@ from ..standards.dukpt import (
 from ..standards.macs import cmac, retail_mac
 from ..standards.pin_blocks import PAN_LENGTHS, PIN_LENGTHS, pin_block, pin_in
 from ..standards.weak_keys import weakness
-from .commands import DOUBLE, DOUBLE_OR_TRIPLE, SERIAL, Refused, count_in, hexadecimal, shown
+from .commands import DOUBLE, DOUBLE_OR_TRIPLE, SERIAL, Refused, count_in, hexadecimal, shown, wrap_lines
 
 MOST_ONES = 10
 MOST_AMOUNT = 4_294_967_295
@@ -29,6 +29,8 @@ BLOCK = (16,)
 # From 1 to 255 blocks.
 DATA_LENGTHS = range(8, 255 * 8 + 1, 8)
 NUMBERS = 1_048_575
+# How many components a local master key has.
+COMPONENTS = range(2, 10)
 
 # What commands share
 
@@ -168,6 +170,52 @@ def kcv_lines(words: Sequence[str], components: bool = False, show: bool = False
     key = reduce(lambda one, other: bytes(a ^ b for a, b in zip(one, other)), keys)
     lines = [line for part in keys for line in values_of(part, "component-")]
     return [*lines, *([f"key {shown(key)}"] if show else []), *key_lines(key)]
+
+
+def lmk_lines(words: Sequence[str], new: bool = False, key: Optional[str] = None, fields: str = "",
+              pad: str = "") -> list[str]:
+    """Check values of the components of a local master key, and of their exclusive or; with a key its
+    key block under that. Or the line of a new component."""
+    if new:
+        return [new_component(words)]
+    lmk, lines = lmk_of(words)
+    return lines if key is None else [*lines, f"block {wrap_lines(shown(lmk), fields, key, pad)[0]}"]
+
+
+def new_component(words: Sequence[str]) -> str:
+    """The one word as a key of odd parity, a space, and its check value."""
+    if len(words) != 1 or not re.fullmatch("[0-9A-Fa-f]{32}|[0-9A-Fa-f]{48}", words[0]):
+        raise Refused("random refused")
+    random = bytes.fromhex(words[0])
+    if weakness(random):
+        raise Refused("random refused")
+    key = bytes(it if bin(it).count("1") % 2 else it ^ 1 for it in random)
+    return f"{shown(key)} {check_value(key)}"
+
+
+def lmk_of(words: Sequence[str]) -> tuple[bytes, list[str]]:
+    """The local master key of some components, and the lines of check values."""
+    if len(words) not in COMPONENTS:
+        raise Refused("components refused")
+    parts: list[bytes] = []
+    for place, word in enumerate(words, 1):
+        part = component_in(word)
+        if part is None or len(part) != len([*parts, part][0]):
+            raise Refused(f"component {place} refused")
+        parts.append(part)
+    key = reduce(lambda one, other: bytes(a ^ b for a, b in zip(one, other)), parts)
+    if weakness(key):
+        raise Refused("LMK weak")
+    return key, [*(f"component {place} {check_value(it)}" for place, it in enumerate(parts, 1)),
+            f"lmk {check_value(key)}"]
+
+
+def component_in(word: str) -> Optional[bytes]:
+    """The component of a line: its digits, a space, and its check value."""
+    found = re.fullmatch("([0-9A-Fa-f]{32}|[0-9A-Fa-f]{48}) ([0-9A-F]{6})", word)
+    if found is None or check_value(bytes.fromhex(found[1])) != found[2]:
+        return None
+    return bytes.fromhex(found[1])
 
 
 def key_lines(key: bytes) -> list[str]:

@@ -17,7 +17,7 @@ from ..standards.macs import cmac, retail_mac
 from ..standards.pin_blocks import pin_block
 from ..standards.weak_keys import weak_key
 from ..worlds.worlds import digits
-from .everyday import NUMBERS, nth_counter
+from .everyday import NUMBERS, check_value, nth_counter
 from .everyday_words import COMMANDS, MOST_BYTES, MOST_KEYS, may_refer
 from .finding import keys_of_number
 
@@ -213,6 +213,39 @@ class Draw:
         count = self.chance.choice((1, 1, 2, 3, MOST_KEYS, self.chance.randint(1, MOST_KEYS)))
         sizes = self.chance.choice(((16,), (24,), (16, 24)))
         return self.case("kcv", *(self.checked_key(*sizes) for _ in range(count)))
+
+    def lmk(self) -> Case:
+        count = self.chance.choice((1, 2, 2, 3, self.chance.randint(2, 9), 9, 10))
+        sizes = self.chance.choice(((16,), (16,), (24,), (24,), (16, 24)))
+        words = [self.component(*sizes) for _ in range(count)]
+        if self.one_in(6):
+            # Of two equal ones there is nothing left.
+            words[1:] = words[:1]
+        if not self.one_in(3):
+            return self.case("lmk", *words, flags=[])
+        fields = self.chance.choice(("P0TB00N", "B0TX00N", "P0TB00", "P0TB0\x7fN"))
+        case = self.case("lmk", *words, flags=[] if not self.one_in(24) else ["new"], key=self.key(16, 24)[1],
+                         fields=fields, pad=self.written(self.padding()))
+        if self.one_in(24):
+            case.words = [it for it in case.words if not it.startswith("--pad=")]
+        return case
+
+    def padding(self) -> str:
+        """Padding that fills whole blocks, or does not."""
+        return self.chance.randbytes(self.chance.choice((6, 6, 6, 14, 5))).hex()
+
+    def new_component(self) -> Case:
+        """`lmk --new`, mostly of one text."""
+        count = 1 if not self.one_in(12) else self.chance.choice((2, 10))
+        return self.case("lmk", *(self.checked_key(16, 24) for _ in range(count)), flags=["new"])
+
+    def component(self, *sizes: int) -> str:
+        """A word for a component, the value of which may be another one's."""
+        key, word = self.key(*sizes)
+        value = check_value(key)
+        if self.one_in(20):
+            value = self.chance.choice((value.lower(), value[:-1], value + "0", "", "000000"))
+        return f"{word}{' ' if not self.one_in(40) else self.chance.choice(('', '  '))}{value}"
 
     def checked_key(self, *sizes: int) -> str:
         """A word for a key, which is often weak."""
@@ -431,5 +464,5 @@ class Draw:
 DRAWS: dict[str, Callable[[Draw], Case]] = {
     "pin": Draw.pin_case,
     **{name: getattr(Draw, name) for name in (
-        "derive", "walk", "initial", "registers", "kcv", "mac", "data", "unpin", "translate", "request",
+        "derive", "walk", "initial", "registers", "kcv", "lmk", "new_component", "mac", "data", "unpin", "translate", "request",
         "reversal", "reply", "find", "shown_frame", "others")}}

@@ -36,6 +36,8 @@ RIGHT = {
     "initial": ["initial", BASE, FIRST],
     "registers": ["registers", INITIAL, SERIAL, "--initial"],
     "kcv": ["kcv", BASE, ZONE, KBPK, "--components"],
+    "lmk": ["lmk", f"{BASE} 08D7B4", f"{KBPK} F7BAA8", "--key", ZONE, "--fields", "P0TB00N",
+            "--pad", "A5A5A5A5A5A5"],
     "mac": ["mac", BASE, "text"],
     "data": ["data", BASE, "16 bytes of text", "--iv", "0123456789ABCDEF"],
     "unpin": ["unpin", "1B9C1845EB993A7A", PAN, "--key", PIN_KEY, "--show"],

@@ -13,7 +13,7 @@ from typing import Callable, Mapping, Optional, Sequence
 from ..program import Ended
 from .commands import Refused, pin_lines, unwrap_lines, wrap_lines
 from .everyday import (
-    data_lines, derive_lines, initial_lines, kcv_lines, mac_lines, registers_lines, reply_lines,
+    data_lines, derive_lines, initial_lines, kcv_lines, lmk_lines, mac_lines, registers_lines, reply_lines,
     request_lines, translate_lines, unpin_lines, walk_lines)
 from .finding import find_lines
 from .shown import show_lines
@@ -28,7 +28,7 @@ MOST_MESSAGE = 1 << 24
 MOST_KEYS = 16
 # Arguments and values of options that are secrets.
 SECRETS = {"BDK", "KBPK", "LOADING", "PIN", "PAN", "ZONE"}
-OF_COMMANDS = {"wrap": {"KEY"}, "kcv": {"KEY"}, "mac": {"KEY"}, "data": {"KEY"},
+OF_COMMANDS = {"wrap": {"KEY"}, "kcv": {"KEY"}, "lmk": {"COMPONENT", "KEY"}, "mac": {"KEY"}, "data": {"KEY"},
                "pin": {"KEY"}, "unpin": {"KEY", "BLOCK"}, "translate": {"BLOCK"}, "show": {"WHAT"},
                "find": {"WHAT", "BLOCK"}}
 
@@ -69,6 +69,8 @@ NO_REVERSAL = ("PAN, PIN and AMOUNT are required without '--reverse <NUMBER>', "
                "and cannot be used with it")
 NO_SEARCH = ("'--text <TEXT>', '--pan <PAN>' and '--clear <BLOCK>' cannot be used with each other and "
              "require '--from <KSN>', and '--hex' requires '--text <TEXT>'")
+NO_BLOCK = ("'--key <KEY>', '--fields <FIELDS>' and '--pad <PAD>' require each other, "
+            "and cannot be used with '--new'")
 NO_TEST = "'--key <BDK>' requires the KIND frame, and '--initial' requires '--key <BDK>'"
 
 
@@ -83,6 +85,11 @@ def unfit_search(given: Given) -> Optional[str]:
     is_fit = (len(told) <= 1 and (not told or "from" in given.valued)
               and ("hex" not in given.flags or told == ["text"]))
     return None if is_fit else NO_SEARCH
+
+
+def unfit_block(given: Given) -> Optional[str]:
+    """All that a key block is made of, or a new component, or neither."""
+    return NO_BLOCK if len(given.valued) + 3 * len(given.flags) not in (0, 3) else None
 
 
 def unfit_test(given: Given) -> Optional[str]:
@@ -101,6 +108,8 @@ COMMANDS = {
     "initial": Command(initial_lines, ("BDK", "IKSN")),
     "registers": Command(registers_lines, ("BDK", "KSN"), INITIAL),
     "kcv": Command(kcv_lines, ("KEY",), ("components", "show"), is_many=True),
+    "lmk": Command(lmk_lines, ("COMPONENT",), ("new",),
+                   {"key": "KEY", "fields": "FIELDS", "pad": "PAD"}, is_many=True, unfit=unfit_block),
     "mac": Command(mac_lines, ("KEY", "TEXT"), ("cmac", "hex")),
     "data": Command(data_lines, ("KEY", "TEXT"), ("decipher", "hex"), {"iv": "BLOCK"}),
     "unpin": Command(unpin_lines, ("BLOCK", "PAN"), ("show",), {"key": "KEY"}),
@@ -160,6 +169,7 @@ def read(words: Sequence[str], command: Command) -> Given:
     if again:
         raise ArgumentsRefused(again)
     demand_count(command, given)
+    demand_fit(command, given)
     return given
 
 
@@ -175,7 +185,7 @@ def read_word(
         raise ArgumentsRefused(f"unexpected argument '{word}' found")
     if command.is_many and given.is_after:
         demand_count(command, given)
-        raise ArgumentsRefused("the argument '<KEY>...' cannot be used multiple times")
+        raise ArgumentsRefused(f"the argument '<{command.values[0]}>...' cannot be used multiple times")
     if len(given.values) == len(command.values) and not command.is_many:
         raise ArgumentsRefused(f"unexpected argument '{word}' found")
     given.values.append(word)
@@ -186,10 +196,15 @@ def demand_count(command: Command, given: Given) -> None:
     """Of too many keys the last one is named."""
     if command.is_many and len(given.values) > MOST_KEYS:
         raise ArgumentsRefused(
-            f"unexpected value '{given.values[-1]}' for '<KEY>...' found; no more were expected")
+            f"unexpected value '{given.values[-1]}' for '<{command.values[0]}>...' found; "
+            "no more were expected")
     least = len(command.values) if command.least is None else command.least
     if len(given.values) < least:
         raise ArgumentsRefused("the following required arguments were not provided:")
+
+
+def demand_fit(command: Command, given: Given) -> None:
+    """What does not fit together is told when all of it is read."""
     why = command.unfit(given) if command.unfit else None
     if why is not None:
         raise ArgumentsRefused(why)

@@ -160,7 +160,7 @@ PRINTED_FIELDS = ("FIELDS", PRINTABLE, "printable characters")
 def of_text(asked: Asked, fault: str) -> Optional[Explanation]:
     if asked.command == "unwrap":
         row = OF_UNWRAP.get(fault) or TEXTS.get(fault)
-    elif (asked.command, fault) == ("wrap", "HeaderField"):
+    elif asked.command in ("wrap", "lmk") and fault == "HeaderField":
         row = PRINTED_FIELDS
     else:
         row = TEXTS.get(fault)
@@ -215,7 +215,7 @@ def of_issued_count(text: str, iksn: int, is_read: bool) -> Explanation:
 def of_key(asked: Asked) -> Explanation:
     if asked.command == "kcv":
         return of_keys(asked.keys)
-    is_any = asked.command in ("wrap", "data") or "cmac" in asked.flags
+    is_any = asked.command in ("wrap", "data", "lmk") or "cmac" in asked.flags
     return Explanation("KEY", found_in(asked.texts["KEY"], HEX), ANY_KEY if is_any else ONE_KEY)
 
 
@@ -263,9 +263,25 @@ def of_sought(asked: Asked) -> Explanation:
     return Explanation("WHAT", found, "16 hexadecimal digits")
 
 
+def of_random(asked: Asked) -> Explanation:
+    """Of several texts the first."""
+    return Explanation("COMPONENT" if len(asked.keys) == 1 else "COMPONENT 1", found_in(asked.keys[0], HEX),
+                       "one text of 32 or 48 random digits, of a key that kcv does not call weak")
+
+
 OF_ONE = {"KSN refused": of_ksn, "counter refused": of_counter, "IKSN refused": of_iksn,
           "count refused": of_count, "key refused": of_key, "text refused": of_message,
-          "WHAT refused": of_sought, "TEXT refused": of_message}
+          "random refused": of_random, "WHAT refused": of_sought, "TEXT refused": of_message}
+
+def of_component(asked: Asked, fault: str) -> Optional[Explanation]:
+    """The first component that is refused: of its text the length alone is told."""
+    found = re.fullmatch("component ([0-9]) refused", fault)
+    if not found:
+        return None
+    text = asked.keys[int(found[1]) - 1]
+    return Explanation(f"COMPONENT {found[1]}", measured(text, None),
+                       "32 or 48 digits as those before it, a space, and their check value")
+
 
 # Faults whose line says all that is known.
 
@@ -300,6 +316,9 @@ CONSTANT = {
     "batch: items refused": Explanation("input", "lines that are refused", "one item a line",
                                         "the fault of each stands in its place"),
     "batch: read failed": Explanation("input", "a read failed", "one item a line"),
+    "components refused": Explanation("COMPONENT", "too few or too many", "2 to 9 lines"),
+    "LMK weak": Explanation("COMPONENT", "components of a weak key",
+                            "components of a key that kcv does not call weak"),
     "KCV differs": Explanation("BDK", "another check value", "a key with the check value KCV",
                                "kcv prints that of a key"),
     "not found": Explanation("WHAT", "made by no key that was tried",
@@ -475,7 +494,7 @@ def explained(asked: Asked, fault: str, facts: Facts = Facts()) -> str:
     of_this = OF_ONE.get(fault)
     found = (CONSTANT.get(fault) or of_show(asked, fault) or of_reference(fault, facts)
              or of_file(fault, facts) or of_config(fault, facts) or of_text(asked, fault)
-             or (of_this and of_this(asked)))
+             or of_component(asked, fault) or (of_this and of_this(asked)))
     if not found:
         raise ValueError(f"there is no such fault: {fault}")
     name = found.name if facts.number is None else f"{found.name} {facts.number}"
@@ -506,13 +525,14 @@ def facts_of_reference(name: str, given: Given, references: References) -> Facts
     """What is known of the reference that is not read: the first in their order. Standard input can be read,
     once."""
     secrets, is_input_read = secret_words(name, given), False
-    for number, (called, word) in enumerate(secrets, 1):
+    names = [called for called, _ in secrets]
+    for at, (called, word) in enumerate(secrets):
         try:
             references.text(called, word)
         except Refused:
             reason = MISSING if word not in INPUTS else READ_BEFORE if is_input_read else OTHER
-            is_one_of_many = COMMANDS[name].is_many and len(secrets) > 1
-            return Facts(reason, path=word, number=number if is_one_of_many else None)
+            number = names[: at + 1].count(called) if names.count(called) > 1 else None
+            return Facts(reason, path=word, number=number)
         is_input_read = is_input_read or word in INPUTS
     return Facts()
 

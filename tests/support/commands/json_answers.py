@@ -17,7 +17,7 @@ Object = list[tuple[str, Union[str, list[str]]]]
 
 # Names whose member is always an array.
 MANY = ("step", "register", "past", "optional-block", "terminal", "payment", "reversal",
-        "component-kcv", "component-cmac")
+        "component", "component-kcv", "component-cmac")
 LINE_REFUSED_TEXT = "line refused"
 NOTE = re.compile(rb"(tried \d+ of \d+|passed over \d+|progress \d+( of \d+)?)\n")
 
@@ -90,7 +90,8 @@ def row_of_issue(line: str) -> Object:
     return list(zip(("iksn", "block", "kcv"), others))
 
 
-def objects_of(command: str, output: bytes, has_components: bool = False) -> list[Object]:
+def objects_of(command: str, output: bytes, has_components: bool = False,
+               is_new: bool = False) -> list[Object]:
     """The objects of what a command writes over its arguments alone."""
     lines = texts(output)
     if command == "walk":
@@ -99,6 +100,8 @@ def objects_of(command: str, output: bytes, has_components: bool = False) -> lis
         return [row_of_issue(line) for line in lines]
     if command == "wrap":
         return [[("block", line)] for line in lines]
+    if command == "lmk" and is_new:
+        return [[("component", [line])] for line in lines]
     if command == "kcv" and not has_components:
         starts = [at for at, line in enumerate(lines) if line.startswith("kcv ")]
         return [object_of(lines[start:end]) for start, end in zip(starts, [*starts[1:], len(lines)])]
@@ -141,5 +144,5 @@ def command_of(words: Sequence[Word]) -> str:
 def wanted(words: Sequence[Word], plain: Ended) -> tuple[list[Object], list[Object]]:
     """The objects of a run over its arguments alone, by the same without `--json`: of standard output,
     and of standard error."""
-    objects = objects_of(command_of(words), plain.output, "--components" in words)
+    objects = objects_of(command_of(words), plain.output, "--components" in words, "--new" in words)
     return objects, objects_of_faults(plain)

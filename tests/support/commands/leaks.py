@@ -13,6 +13,7 @@ from ..standards.dukpt import SPENT, derive, initial_key, iksn_of, key_of, pin_k
 from ..standards.pin_blocks import pin_block, pin_in
 from .batches import MOST_ITEM, Batch, lines_in
 from .commands import Refused, shown
+from .everyday import new_component
 from .everyday_cases import Case
 from .everyday_words import (
     COMMANDS, ArgumentsRefused, Given, References, is_secret, lines_of, read, resolve)
@@ -108,6 +109,10 @@ def made_secrets(name: str, given: Given) -> set[str]:
     values = given.values
     if name == "kcv" and "components" in given.flags:
         return {combined(values)}
+    if name == "lmk" and "new" in given.flags:
+        return set()
+    if name == "lmk":
+        return {combined([word.split(" ")[0] for word in values])}
     if name in ("translate", "request"):
         base, number = values[2:4] if name == "translate" else values[:2]
         serial = int(number, 16)
@@ -193,6 +198,8 @@ def asked_for(name: str, given: Given) -> set[str]:
         return {given.values[0]}
     if name == "kcv" and given.flags == {"components", "show"}:
         return {combined(given.values)}
+    if name == "lmk" and "new" in given.flags:
+        return {new_component(given.values).partition(" ")[0]}
     if name == "unpin" and "show" in given.flags:
         return {pin for pin in made_secrets(name, given) if len(pin) < LONG}
     if name == "show":

@@ -2,6 +2,7 @@
 from __future__ import annotations
 
 import fcntl
+import hashlib
 import os
 import shutil
 import subprocess
@@ -13,6 +14,8 @@ from typing import Iterable, Iterator, Optional, Sequence
 from ..program import ROOT, Word
 
 BUILT = ROOT / "out" / "library"
+# The sums of the sources of what was found built, and of its record.
+SUMS = BUILT.with_suffix(".sums")
 SOURCES = (ROOT / "library" / "c", ROOT / "library" / "calls.toml", ROOT / "tools" / "library_of",
            *ROOT.glob("crates/duk*/src"))
 FILES = ("libdukpt.a", "libdukpt.so.0", "libdukpt.so", "dukpt.h", "dukpt.pc", "BUILD")
@@ -20,6 +23,11 @@ FILES = ("libdukpt.a", "libdukpt.so.0", "libdukpt.so", "dukpt.h", "dukpt.pc", "B
 PACKAGES = {"gcc": "gcc", "g++": "g++", "clang": "clang", "clang++": "clang", "valgrind": "valgrind",
             "nm": "binutils", "readelf": "binutils", "cargo-clippy": "rust-clippy"}
 SECONDS = 1800
+# The file of another library, for all tests; and whether a run may build the one of the repository.
+VARIABLE, MAY_BUILD = "DUKPT_LIBRARY", "DUKPT_TESTS_BUILD"
+NOT_BUILT = (
+    "out/library is not built of these sources, which may take an hour: build it by tools/library, or by"
+    f" tools/test --build, or have {VARIABLE} name the file of another one")
 
 
 class LibraryMissing(AssertionError):
@@ -45,8 +53,13 @@ def locked(path: Path) -> Iterator[None]:
 
 def newest(paths: Iterable[Path]) -> float:
     """When the newest of these files, and of those in these folders, was changed."""
-    files = (file for path in paths for file in ([path] if path.is_file() else path.glob("*.*")))
-    return max((file.stat().st_mtime for file in files), default=0)
+    return max((file.stat().st_mtime for path in paths for file in files_of(path)), default=0)
+
+
+def files_of(path: Path) -> list[Path]:
+    """A file, or the files of a folder and of those in it."""
+    return [path] if path.is_file() else [it for it in path.rglob("*.*") if it.is_file()
+                                          and "__pycache__" not in it.parts]
 
 
 def is_fresh(made: Sequence[Path], sources: Iterable[Path]) -> bool:
@@ -56,12 +69,48 @@ def is_fresh(made: Sequence[Path], sources: Iterable[Path]) -> bool:
 
 
 def built_library() -> Path:
-    """The folder of the built library. It is built where a file is missing, or older than a
-    source."""
+    """The folder of the built library: of the file that DUKPT_LIBRARY names, or else of the
+    repository. That one is built where it is not made of the sources as they are, if the run may: one
+    of chosen tests is to be told so, since all proofs may belong to it."""
+    named = os.environ.get(VARIABLE)
+    if named:
+        return whole(Path(named).absolute().parent)
     with locked(BUILT.with_suffix(".lock")):
-        if not is_fresh([BUILT / name for name in FILES], SOURCES):
+        if not is_current():
+            if not os.environ.get(MAY_BUILD):
+                raise LibraryMissing(NOT_BUILT)
             build()
+            keep_sums()
     return BUILT
+
+
+def whole(folder: Path) -> Path:
+    """A folder of a library, which has each of its files."""
+    missing = [name for name in FILES if not (folder / name).exists()]
+    if missing:
+        raise LibraryMissing(f"{VARIABLE} names a file of {folder}, which has no {' and no '.join(missing)}")
+    return folder
+
+
+def is_current() -> bool:
+    """Whether the library is made of the sources as they are: none is newer, or each has the bytes
+    that it had when none was."""
+    made = [BUILT / name for name in FILES]
+    if is_fresh(made, SOURCES):
+        keep_sums()
+        return True
+    return all(map(Path.exists, made)) and SUMS.exists() and SUMS.read_text() == sums()
+
+
+def keep_sums() -> None:
+    SUMS.write_text(sums(), encoding="ascii")
+
+
+def sums() -> str:
+    """The sums of the sources, and of the record of what is built, by their paths."""
+    files = [file for path in (*SOURCES, BUILT / "BUILD") for file in files_of(path)]
+    return "".join(f"{hashlib.sha256(it.read_bytes()).hexdigest()} {it.relative_to(ROOT)}\n"
+                   for it in sorted(files))
 
 
 # What tools/library reads, but for the archive and the built library.

@@ -28,7 +28,7 @@ from .library_values import (
     BLOCK, FAULTS, IMAGE, KEY, KSN, STATUS, TDES_KEYS, Fault, Value, demand, found_pin, number,
     octets, pan_of, parts, pin_of, roomy, sized)
 
-__all__ = ["CALLS", "DRAWN", "FAULTS", "STATUS", "Answer", "Call", "Fault", "Value", "answer"]
+__all__ = ["CALLS", "FAULTS", "STATUS", "Answer", "Call", "Fault", "Value", "answer"]
 
 
 @dataclass(frozen=True)
@@ -290,6 +290,3 @@ CALLS: dict[str, Call] = {
     "dukpt_host_answer": takes("bbw", write_answers),
     "dukpt_frame_length": takes("bc", write_frame_length),
 }
-# The calls whose cases the programs in C draw, and have a peer over OpenSSL for. Those of hosts are
-# tried in test_library_module.
-DRAWN = [name for name in CALLS if not name.startswith(("dukpt_module_", "dukpt_host_"))]

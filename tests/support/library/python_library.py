@@ -6,6 +6,7 @@ import os
 import sys
 from types import ModuleType
 from typing import Any
+from unittest.mock import patch
 
 from ..case import Case
 from ..program import ROOT
@@ -22,13 +23,12 @@ VARIABLE = "DUKPT_LIBRARY"
 def package() -> ModuleType:
     """The package `dukpt`. A process has one."""
     if "dukpt" not in sys.modules:
-        os.environ[VARIABLE] = str(built_library() / SHARED)
         sys.path.insert(0, str(PACKAGE))
         try:
-            importlib.import_module("dukpt")
+            with patch.dict(os.environ, {VARIABLE: str(built_library() / SHARED)}):
+                importlib.import_module("dukpt")
         finally:
             sys.path.remove(str(PACKAGE))
-            del os.environ[VARIABLE]
     return sys.modules["dukpt"]
 
 

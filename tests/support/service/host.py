@@ -11,6 +11,7 @@ import threading
 import time
 import urllib.error
 import urllib.request
+from glob import glob
 from pathlib import Path
 from typing import Callable, Iterator, Optional, Sequence
 
@@ -123,11 +124,18 @@ class Running:
 
 
 def children_of(process: int) -> Iterator[int]:
-    """The processes below one, of all depths."""
-    for task in Path(f"/proc/{process}/task").iterdir():
-        for child in map(int, (task / "children").read_text().split()):
+    """The processes below one, of all depths. One may end meanwhile."""
+    for children in glob(f"/proc/{process}/task/*/children"):
+        for child in map(int, text_of(Path(children)).split()):
             yield child
             yield from children_of(child)
+
+
+def text_of(file: Path) -> str:
+    try:
+        return file.read_text()
+    except OSError:
+        return ""
 
 
 def command_of(process: int) -> bytes:

@@ -19,8 +19,6 @@ RECORD = 32
 # A start reads so many bytes at once, and a service so many of its input.
 AHEAD = READ = 1 << 16
 MOST_FRAMES = 1024
-# A small read takes so many bytes, and they are held.
-SMALL = 4096
 # One that does not wait writes so many bytes at once, where its output is ready for some. One that
 # gives up does so after so many seconds.
 A_FEW, PATIENCE = 500, 0.1
@@ -73,7 +71,6 @@ class Journal:
         self.payments: dict[bytes, tuple[bytes, int]] = {}
         self.count = 0
         self.read_groups()
-        self.read_payments()
 
     def read(self, at: int, count: int) -> bytes:
         data = b""
@@ -103,12 +100,6 @@ class Journal:
             self.count = last + 1
         if self.way is not Way.LOOKS_AT_NOTHING and any(it[0] == 1 for it in records[self.count :]):
             raise OSError("an open record behind a closed one")
-
-    def read_payments(self) -> None:
-        """Reads them once more, where a small read does not hold them."""
-        end = RECORD * self.count
-        for at in range(0, end if self.size > SMALL else 0, AHEAD):
-            os.pread(self.file, max(min(AHEAD, end - at), min(SMALL, self.size - at)), at)
 
     def check(self, one: bytes, follows: bool, is_inside: bool) -> None:
         counter = int.from_bytes(one[11:14], "big") % (1 << 21)

@@ -3,7 +3,7 @@ use Rattle.std.proofs.Common.{◌≡◌, ◌++◌, ◌∷◌, [], ℕ, List, inl
 use Rattle.duk_frame.specs.Answer.{IsReply}
 use Rattle.duk_frame.specs.declared.answer.AnswerFrame.TheVariants.{Reply}
 use Rattle.duk_frame.specs.declared.code.Code.{Code}
-use Rattle.duk_line.specs.Judged.{TellsReversal}
+use Rattle.duk_journal_host.specs.Judged.{TellsReversal}
 use Rattle.duk_reversal.specs.Reply.{IsReversalReply}
 use Rattle.duk_reversal.specs.declared.reply.ReversalReply.{ReversalReply}
 use Rattle.duk_reversal.specs.declared.state.ReversalState.{ReversalState}

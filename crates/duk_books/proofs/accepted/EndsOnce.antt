@@ -1,6 +1,6 @@
 -- Each purchase ends at most once.
 use Rattle.std.proofs.Common.{◌≡◌, ◌⊎◌, ◌++◌, ◌∷◌, [], ℕ, List, Some, Ok, Err, AllPairs, Any, Contains, inl, inr, refl, sym, ap, subst, ◌∙◌, append-nil}
-use Rattle.duk_line.specs.Group.{AnswersFrames}
+use Rattle.duk_journal_host.specs.Group.{AnswersFrames}
 use Rattle.duk_term.specs.Load.{Loading}
 use Rattle.duk_till.specs.Lifetime.{Begin, Call, IsCalled, Load, Reverse, Stop}
 use Rattle.duk_till.specs.Till.{IsOpen, TillOf}

@@ -11,9 +11,9 @@ use Rattle.duk_frame.specs.declared.request.Request.{Request}
 use Rattle.duk_host.specs.Judgement.{IsAuthentic, IsReasonAgainst, IsRefusalFor, IsRefusedRequest, IsReplyWith, JudgementBasis, reason_number}
 use Rattle.duk_hsm.specs.Keys.{HsmKeys}
 use Rattle.duk_journal.specs.Groups.{Entries}
-use Rattle.duk_line.specs.Host.{basis_of}
-use Rattle.duk_line.specs.Judgement.{IsAuthenticReversal, IsJudged, IsReversalReplyWith, LineBasis, refusal_of, without_repeats}
-use Rattle.duk_line.specs.Judgement as line
+use Rattle.duk_journal_host.specs.Host.{basis_of}
+use Rattle.duk_journal_host.specs.Judgement.{IsAuthenticReversal, IsJudged, IsReversalReplyWith, LineBasis, refusal_of, without_repeats}
+use Rattle.duk_journal_host.specs.Judgement as line
 use Rattle.duk_reversal.specs.Authentic.{reversal_reply_of, reversal_reply_under}
 use Rattle.duk_reversal.specs.Numbers.{AreNumbers, Numbers}
 use Rattle.duk_reversal.specs.Reply.{IsReversalReply}

@@ -5,7 +5,7 @@ use Rattle.duk_frame.specs.Answer.{IsAnswer, IsReply}
 use Rattle.duk_frame.specs.declared.answer.AnswerFrame.{AnswerFrame}
 use Rattle.duk_frame.specs.declared.answer.AnswerFrame.TheVariants.{Refusal, Reply}
 use Rattle.duk_frame.specs.declared.code.Code.{Code}
-use Rattle.duk_line.specs.Judged.{TellsReversal}
+use Rattle.duk_journal_host.specs.Judged.{TellsReversal}
 use Rattle.duk_reversal.specs.Numbers.{Numbers}
 use Rattle.duk_reversal.specs.Reply.{IsReversalReply}
 use Rattle.duk_reversal.specs.declared.reply.ReversalReply.{ReversalReply}
@@ -31,10 +31,10 @@ pub record AnswerLaws : Type 0 where
 pub same_ksn : (ksn other : Serial) (code with : Code) (mac also : List ℕ) → Reply ksn code mac ≡ Reply other with also → ksn ≡ other
 same_ksn ksn other code with mac also same = cc
 
-same_code : (ksn other : Serial) (code with : Code) (mac also : List ℕ) → Reply ksn code mac ≡ Reply other with also → code ≡ with
+pub same_code : (ksn other : Serial) (code with : Code) (mac also : List ℕ) → Reply ksn code mac ≡ Reply other with also → code ≡ with
 same_code ksn other code with mac also same = cc
 
-no_refusal : (ksn other : Serial) (code : Code) (mac : List ℕ) (reason : ℕ) → ¬ (Refusal ksn reason ≡ Reply other code mac)
+pub no_refusal : (ksn other : Serial) (code : Code) (mac : List ℕ) (reason : ℕ) → ¬ (Refusal ksn reason ≡ Reply other code mac)
 no_refusal ksn other code mac reason same = cc
 
 module _ (laws : AnswerLaws) (answers : List Frame) (answer : Frame) where

@@ -7,10 +7,10 @@ use Rattle.duk_host.specs.Lifetime.{AcceptsNumber}
 use Rattle.duk_hsm.specs.Keys.{HsmKeys}
 use Rattle.duk_journal.specs.Groups.{Entries}
 use Rattle.duk_journal.specs.Standing.{UseNewNumbers}
-use Rattle.duk_line.specs.Group.{AnswersFrames}
-use Rattle.duk_line.specs.Host.{basis_of}
-use Rattle.duk_line.specs.Judged.{AreJudged, IsReplyOf, IsReversalReplyOf, TellsReversal}
-use Rattle.duk_line.specs.Judgement.{LineBasis}
+use Rattle.duk_journal_host.specs.Group.{AnswersFrames}
+use Rattle.duk_journal_host.specs.Host.{basis_of}
+use Rattle.duk_journal_host.specs.Judged.{AreJudged, IsReplyOf, IsReversalReplyOf, TellsReversal}
+use Rattle.duk_journal_host.specs.Judgement.{LineBasis}
 use Rattle.duk_reversal.specs.Numbers.{Numbers}
 use Rattle.duk_reversal.specs.declared.state.ReversalState.{ReversalState}
 use Rattle.duk_tree.specs.Serial.{Serial}

@@ -16,10 +16,10 @@ use Rattle.duk_journal.specs.Standing.{UseNewNumbers, payment_entry, reversed_in
 use Rattle.duk_journal.specs.declared.entry.Decided.{Decided}
 use Rattle.duk_journal.specs.declared.entry.Decided.TheVariants.{Payment, Reversal}
 use Rattle.duk_journal.specs.declared.entry.Entry.{Entry}
-use Rattle.duk_line.specs.Group.{AnswersFrames, GroupRefused}
-use Rattle.duk_line.specs.Host.{HostMeaning, HostOf, JudgesBy, basis_of}
-use Rattle.duk_line.specs.Judged.{AreJudged, AreRepliesOf, AreReversalRepliesOf, IsReplyOf, IsReversalReplyOf}
-use Rattle.duk_line.specs.Judgement.{IsJudged, LineBasis, with_entries}
+use Rattle.duk_journal_host.specs.Group.{AnswersFrames, GroupRefused}
+use Rattle.duk_journal_host.specs.Host.{HostMeaning, HostOf, JudgesBy, basis_of}
+use Rattle.duk_journal_host.specs.Judged.{AreJudged, AreRepliesOf, AreReversalRepliesOf, IsReplyOf, IsReversalReplyOf}
+use Rattle.duk_journal_host.specs.Judgement.{IsJudged, LineBasis, with_entries}
 use Rattle.duk_reversal.specs.Numbers.{AreNumbers, Numbers}
 use Rattle.duk_reversal.specs.Reply.{IsReversalReply}
 use Rattle.duk_reversal.specs.Reversal.{IsReversal}
@@ -103,7 +103,7 @@ pub record EntriesHold (requests answers : List Frame) (entries : Entries) : Typ
 pub none_new : UseNewNumbers []
 none_new = record { usable = λ i d within. absurd (omega (arith, within)); stand = λ i d within. absurd (omega (arith, within)); new = λ i j d below within. absurd (omega (arith, within)) }
 
-flat_in : {A B : Type 0} (f : A → List B) (things : List A) (thing : A) (other : B) → Contains things thing → Contains (f thing) other → Contains (flat_map f things) other
+pub flat_in : {A B : Type 0} (f : A → List B) (things : List A) (thing : A) (other : B) → Contains things thing → Contains (f thing) other → Contains (flat_map f things) other
 flat_in f [] thing other is_in has = absurd (none_in thing is_in)
 flat_in f (first ∷ things) thing other is_in has = elim (Contains-append_cases (first ∷ []) things thing is_in) [
   | inl here ↦ Contains-append_left (f first) (flat_map f things) other (subst (λ it. Contains (f it) other) (the_only first thing here) has)

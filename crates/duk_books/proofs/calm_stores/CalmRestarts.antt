@@ -6,8 +6,8 @@ use Rattle.std.proofs.lemmas.List.Elements.{All-cons, All-head, All-nil, All-tai
 use Rattle.std.proofs.Math.ListN.{get_or}
 use Rattle.duk_host.specs.declared.fault.HostFault.{HostFault}
 use Rattle.duk_host.specs.declared.fault.HostFault.TheVariants as host_fault
-use Rattle.duk_line.specs.Host.{HostOf}
-use Rattle.duk_line.specs.Restart.{HostRestartRefused}
+use Rattle.duk_journal_host.specs.Host.{HostOf}
+use Rattle.duk_journal_host.specs.Restart.{HostRestartRefused}
 use Rattle.duk_store.specs.Restart.{IsRestartFault}
 use Rattle.duk_store.specs.StoreState.{StoreState}
 use Rattle.duk_store.specs.declared.fault.StoreFault.{StoreFault}

@@ -4,9 +4,9 @@ use Rattle.std.proofs.Common.{◌∷◌, [], ℕ, List, inl, inr}
 use Rattle.duk_host.specs.declared.fault.HostFault.{HostFault}
 use Rattle.duk_host.specs.declared.fault.HostFault.TheVariants as host_fault
 use Rattle.duk_journal.specs.Standing.{UseNewNumbers}
-use Rattle.duk_line.specs.Group.{GroupRefused, IsGroupNotKept}
-use Rattle.duk_line.specs.Host.{HostMeaning, HostOf}
-use Rattle.duk_line.specs.Restart.{HostRestartRefused}
+use Rattle.duk_journal_host.specs.Group.{GroupRefused, IsGroupNotKept}
+use Rattle.duk_journal_host.specs.Host.{HostMeaning, HostOf}
+use Rattle.duk_journal_host.specs.Restart.{HostRestartRefused}
 use Rattle.duk_store.specs.declared.fault.StoreFault.{StoreFault}
 use Rattle.duk_books.specs.Calm.{IsJournalFault}
 use Rattle.duk_books.proofs.calm_stores.StoreFaults.{FailsSpared, PreservesCalm, Spares, append_failed, found_wrong, nature_kept, none_reported, restart_failed, same_kept}
@@ -48,8 +48,8 @@ module _ {J I : Type 0} (meaning : HostMeaning J I) (before after : HostOf J I) 
     restart_refused (host_fault.Store why) is = journal_refuses why (elim is.cause [
       | inl failed ↦ restart_failed _ _ why failed
       | inr (damaged, unusable) ↦
-          found_wrong (meaning.journal.state_of before.journal) (meaning.journal.state_of after.journal) why damaged unusable.journal.nature
-          (λ honest. let list = unusable.journal.found honest in unusable.not_usable honest (finds.entries list.0 list.1.was_found))
+          found_wrong (meaning.journal.state_of before.journal) (meaning.journal.state_of after.journal) why damaged unusable.journal.stops.nature
+          (λ honest sound. let list = unusable.not_usable honest sound in list.2 (finds.entries list.0 list.1))
     ])
-    restart_refused host_fault.NoMemory is = plainly host_fault.NoMemory (nature_kept _ _ is.journal.nature) (λ reported is. is)
+    restart_refused host_fault.NoMemory is = plainly host_fault.NoMemory (nature_kept _ _ is.journal.stops.nature) (λ reported is. is)
     restart_refused _ is = absurd is

@@ -1,7 +1,8 @@
 -- What the calls of a store leave of its soundness and calm, and which faults it may then report.
 use Rattle.std.proofs.Common.{◌≡◌, ◌≢◌, ℕ, List, subst, sym}
 use Rattle.duk_journal.specs.Groups.{Entries}
-use Rattle.duk_journal.specs.Journal.{GroupAppendFailed, JournalMeaning}
+use Rattle.duk_journal.specs.Journal.{JournalMeaning}
+use Rattle.duk_store.specs.Listed.{GroupAppendFailed}
 use Rattle.duk_store.specs.Cell.{CellMeaning, PutFailed}
 use Rattle.duk_store.specs.Restart.{RestartFailed}
 use Rattle.duk_store.specs.StoreState.{PreservesNature, StoreState}
@@ -89,9 +90,9 @@ restart_failed old new Device failed = record {
 restart_failed old new Damaged failed = record { keeps = nature_kept old new failed.stops.nature; spares = damage_spared old failed.fault_is.unsound }
 restart_failed old new _ failed = absurd failed.fault_is
 
--- a restart that found what an honest store does not find, and says that it is damaged
-pub found_wrong : {V : Type 0} (old new : StoreState V) (why : StoreFault) → why ≡ Damaged → PreservesNature old new → ¬ old.honest → FailsSpared old new why
+-- a restart that found what an honest and sound store does not find, and says that it is damaged
+pub found_wrong : {V : Type 0} (old new : StoreState V) (why : StoreFault) → why ≡ Damaged → PreservesNature old new → (old.honest → ¬ old.sound) → FailsSpared old new why
 found_wrong old new why damaged nature never = record {
   keeps = nature_kept old new nature;
-  spares = subst (λ (it : StoreFault). Spares old (IsFault it)) (sym damaged) (damage_spared old (λ honest. absurd (never honest)));
+  spares = subst (λ (it : StoreFault). Spares old (IsFault it)) (sym damaged) (damage_spared old never);
 }

@@ -95,7 +95,7 @@ terminal_restart_refused : {C : Type 0} (cell : CellMeaning C) (before after : T
 terminal_restart_refused cell before after (term_fault.Store why) bodies refused = cell_refuses cell before after why (elim refused.cause [
   | inl failed ↦ restart_failed (cell.state_of before.cell) (cell.state_of after.cell) why failed
   | inr (damaged, none) ↦ found_wrong (cell.state_of before.cell) (cell.state_of after.cell) why damaged none.cell.settles.nature
-      (λ honest. none.no_body (bodies none.bytes (none.cell.was_found honest)))
+      (λ honest sound. none.no_body (bodies none.bytes (none.cell.was_found honest)))
 ])
 terminal_restart_refused cell before after _ bodies refused = absurd refused
 
@@ -236,7 +236,7 @@ module _ {C B : Type 0} (cell : CellMeaning C) (book : CellMeaning B) (before af
     book_fails why (inl failed) = restart_failed _ _ why failed.cell
     book_fails why (inr (damaged, none)) =
         found_wrong (book.state_of before.book) (book.state_of after.book) why damaged none.cell.settles.nature
-        (λ honest. let body = lasts none.bytes (none.cell.was_found honest) in none.no_body body.0 body.1)
+        (λ honest sound. let body = lasts none.bytes (none.cell.was_found honest) in none.no_body body.0 body.1)
 
     pub restart_refused : (why : TillFault) → TillRestartRefused cell book before after why → Refuses why
     restart_refused (fault.Terminal why) is =

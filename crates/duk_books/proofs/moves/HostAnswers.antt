@@ -5,10 +5,10 @@ use Rattle.duk_frame.specs.Answer.{IsAnswer}
 use Rattle.duk_frame.specs.declared.answer.AnswerFrame.{AnswerFrame}
 use Rattle.duk_frame.specs.declared.answer.AnswerFrame.TheVariants.{Refusal, Reply}
 use Rattle.duk_journal.specs.Groups.{Entries}
-use Rattle.duk_line.specs.Group.{AnswersFrames}
-use Rattle.duk_line.specs.Host.{HostMeaning, HostOf, IndexOf, JudgesBy, basis_of}
-use Rattle.duk_line.specs.Judged.{AreJudged}
-use Rattle.duk_line.specs.Judgement.{IsJudged, LineBasis}
+use Rattle.duk_journal_host.specs.Group.{AnswersFrames}
+use Rattle.duk_journal_host.specs.Host.{HostMeaning, HostOf, IndexOf, JudgesBy, basis_of}
+use Rattle.duk_journal_host.specs.Judged.{AreJudged}
+use Rattle.duk_journal_host.specs.Judgement.{IsJudged, LineBasis}
 use Rattle.duk_reversal.specs.Reply.{IsReversalReply}
 use Rattle.duk_reversal.specs.declared.reply.ReversalReply.{ReversalReply}
 use Rattle.duk_store.specs.StoreState.{StaysButCalm}

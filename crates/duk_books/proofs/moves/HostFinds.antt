@@ -3,11 +3,12 @@ use Rattle.std.proofs.Common.{◌≡◌, ◌⊎◌, ◌++◌, ◌∷◌, [], ℕ
 use Rattle.duk_host.specs.declared.fault.HostFault.{HostFault}
 use Rattle.duk_host.specs.declared.fault.HostFault.TheVariants as host_fault
 use Rattle.duk_journal.specs.Groups.{Entries}
-use Rattle.duk_journal.specs.Journal.{GroupAppendFailed, JournalRestarted}
-use Rattle.duk_line.specs.Group.{AnswersFirst, AnswersFrames, GroupRefused, IsGroupNotKept}
-use Rattle.duk_line.specs.Host.{HostMeaning, HostOf, JudgesBy, basis_of}
-use Rattle.duk_line.specs.Judged.{AreJudged}
-use Rattle.duk_line.specs.Restart.{HostRestartRefused, IsHostRestarted}
+use Rattle.duk_store.specs.Listed.{GroupAppendFailed}
+use Rattle.duk_store.specs.StoreState.{Stops}
+use Rattle.duk_journal_host.specs.Group.{AnswersFirst, AnswersFrames, GroupRefused, IsGroupNotKept}
+use Rattle.duk_journal_host.specs.Host.{HostMeaning, HostOf, JudgesBy, basis_of}
+use Rattle.duk_journal_host.specs.Judged.{AreJudged}
+use Rattle.duk_journal_host.specs.Restart.{HostRestartRefused, IsHostRestarted}
 use Rattle.duk_store.specs.declared.fault.StoreFault.{StoreFault}
 use Rattle.duk_store.specs.declared.fault.StoreFault.TheVariants as store_fault
 use Rattle.duk_books.specs.Arm.{ArmsJournal}
@@ -111,25 +112,19 @@ module _ {J I : Type 0} (meaning : HostMeaning J I) (Q : Entries → Type 0) (ol
     runs = inr (is.entries, is.judges);
   }
 
-  found_once : (count : ℕ) → JournalRestarted meaning.journal old.journal new.journal count → new.state ≡ None → HostFinds meaning Q new
-  found_once count is stopped =
-      let list = is.found holds.honest in
-      record {
-        honest = is.nature.honest.0 holds.honest;
-        entries = λ entries finds. subst Q (sym ((list.1.finds entries).0 finds)) (holds.entries list.0 list.1.was_found);
-        runs = inl stopped;
-      }
+  found_before : Stops (meaning.journal.state_of old.journal) (meaning.journal.state_of new.journal) (meaning.journal.state_of old.journal).found → new.state ≡ None → HostFinds meaning Q new
+  found_before is stopped = record {
+    honest = is.nature.honest.0 holds.honest;
+    entries = λ entries found. holds.entries entries (is.within holds.honest entries found);
+    runs = inl stopped;
+  }
 
   restart_refused_finds : (why : HostFault) → HostRestartRefused meaning.journal old new why → HostFinds meaning Q new
   restart_refused_finds (host_fault.Store why) is = elim is.cause [
-    | inl failed ↦ record {
-      honest = failed.stops.nature.honest.0 holds.honest;
-      entries = λ entries found. holds.entries entries (failed.stops.within holds.honest entries found);
-      runs = inl is.stopped;
-    }
-    | inr unusable ↦ found_once unusable.1.count unusable.1.journal is.stopped
+    | inl failed ↦ found_before failed.stops is.stopped
+    | inr unusable ↦ found_before unusable.1.journal.stops is.stopped
   ]
-  restart_refused_finds host_fault.NoMemory is = found_once is.count is.journal is.stopped
+  restart_refused_finds host_fault.NoMemory is = found_before is.journal.stops is.stopped
   restart_refused_finds _ is = absurd is
 
 module _ {C B J I : Type 0} (m : Meanings C B J I) (Q : Entries → Type 0) (old new : HostOf J I) (holds : HostFinds m.host Q old) where

@@ -2,9 +2,9 @@
 use Rattle.std.proofs.Common.{◌≡◌, ◌∷◌, [], ℕ, List, ap, ◌∙◌}
 use Rattle.duk_host.specs.declared.fault.HostFault.{HostFault}
 use Rattle.duk_host.specs.declared.fault.HostFault.TheVariants as host_fault
-use Rattle.duk_line.specs.Group.{GroupRefused}
-use Rattle.duk_line.specs.Host.{HostMeaning, HostOf}
-use Rattle.duk_line.specs.Restart.{HostRestartRefused}
+use Rattle.duk_journal_host.specs.Group.{GroupRefused}
+use Rattle.duk_journal_host.specs.Host.{HostMeaning, HostOf}
+use Rattle.duk_journal_host.specs.Restart.{HostRestartRefused}
 use Rattle.duk_books.specs.Books.{BooksOf, Meanings}
 use Rattle.duk_books.proofs.moves.StepChanges.{Change, TouchesHost, answered, host, host_armed, host_restart_refused, host_restarted, load, nothing, quiet, reverse, send, tell, unanswered}
 

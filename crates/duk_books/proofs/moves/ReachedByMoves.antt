@@ -1,7 +1,7 @@
 -- What holds of all that is reached, and of every run from it.
 use Rattle.std.proofs.Common.{◌∷◌, [], zero, suc, ℕ, List, Result, Ok, Err, IfOk, IfErr, take, inl, inr, refl, sym, subst}
 use Rattle.std.specs.Prelude.{All}
-use Rattle.duk_line.specs.Host.{HostOf}
+use Rattle.duk_journal_host.specs.Host.{HostOf}
 use Rattle.duk_till.specs.Till.{TillOf}
 use Rattle.duk_books.specs.Books.{BooksOf, Meanings}
 use Rattle.duk_books.specs.First.{IsFirst, IsNewHost, IsNewTill, first_books}

@@ -3,9 +3,9 @@ use Rattle.std.proofs.Common.{◌≡◌, ◌++◌, ◌∷◌, ℕ, List, [], Con
 use Rattle.std.proofs.lemmas.Option.{get_or_from_slice_get, slice_get_within}
 use Rattle.duk_host.specs.declared.fault.HostFault.{HostFault}
 use Rattle.duk_host.specs.declared.fault.HostFault.TheVariants as host_fault
-use Rattle.duk_line.specs.Group.{AnswersFrames, GroupRefused}
-use Rattle.duk_line.specs.Host.{HostOf}
-use Rattle.duk_line.specs.Restart.{HostRestartRefused, IsHostRestarted}
+use Rattle.duk_journal_host.specs.Group.{AnswersFrames, GroupRefused}
+use Rattle.duk_journal_host.specs.Host.{HostOf}
+use Rattle.duk_journal_host.specs.Restart.{HostRestartRefused, IsHostRestarted}
 use Rattle.duk_reversal.specs.Reversal.{IsReversal}
 use Rattle.duk_reversal.specs.declared.reversal.Reversal as reversal_frame
 use Rattle.duk_store.specs.Cell.{CellMeaning}

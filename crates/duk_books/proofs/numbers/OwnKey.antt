@@ -1,8 +1,8 @@
 -- The keys of what tills send.
 use Rattle.std.proofs.Common.{◌≡◌, ◌++◌, ◌∷◌, [], ℕ, List, Option, All, inl, inr, suc, refl, sym, ap, subst, ◌∙◌}
 use Rattle.std.proofs.lemmas.List.Elements.{All-nil, All-push}
-use Rattle.duk_frame.specs.Payment.{request_of}
-use Rattle.duk_hsm.specs.Commands.{IsTransactionKey}
+use Rattle.duk_frame.specs.Payment.{enciphered_pin, request_of}
+use Rattle.duk_hsm.specs.Commands.{IsPinOf, IsTransactionKey}
 use Rattle.duk_hsm.specs.Keys.{HsmKeys, key_set_of}
 use Rattle.duk_pin.specs.PinBlock.{IsPinBlock, pin_block}
 use Rattle.duk_regs.specs.Registers.{AreFutureKeysOf, IsTaken, RegisterSet}
@@ -44,7 +44,7 @@ pub record OwnKeyLaws {C B J I : Type 0} (m : Meanings C B J I) : Type 0 where
 
 module _ {C B J I : Type 0} (m : Meanings C B J I) (laws : OwnKeyLaws m) (keys : HsmKeys) (requests : List Frame) where
   -- registers of the own initial key give the transaction key of their next number
-  own_transaction_key : (set left : RegisterSet) (key : List ℕ) → TakesNumber set key left → IsSerial (serial_of set) → AreRegistersAboveUsed keys requests set → IsTransactionKey keys (serial_of set) key
+  pub own_transaction_key : (set left : RegisterSet) (key : List ℕ) → TakesNumber set key left → IsSerial (serial_of set) → AreRegistersAboveUsed keys requests set → IsTransactionKey keys (serial_of set) key
   own_transaction_key set left key takes serial above =
       let initial = above.initial_is in
       let taken = laws.taken above.initial set left key takes.usable takes.taken above.future_keys in
@@ -55,22 +55,31 @@ module _ {C B J I : Type 0} (m : Meanings C B J I) (laws : OwnKeyLaws m) (keys :
         key_is = taken ∙ ap (λ (root : List ℕ). transaction_key_of root set.iksn set.counter) initial.initial_is;
       }
 
+  -- and the PIN in the block of a request that is made with it is found again
+  pub pin_found : (purchase : Purchase) (before after : TerminalOf C) (frame : List ℕ) (begun : IsBegun m.cell purchase before after frame) → AreRegistersAboveUsed keys requests begun.set
+      → IsPinOf begun.key (enciphered_pin begun.key purchase.pin purchase.pan) purchase.pan purchase.pin
+  pin_found purchase before after frame begun above =
+      let set = begun.set in
+      let key = begun.key in
+      let takes = begun.takes.takes in
+      let readable = laws.readable purchase before after frame begun in
+      let taken = laws.taken above.initial set begun.left key takes.usable takes.taken above.future_keys in
+      let is_key : IsKey 16 key = subst (IsKey 16) (sym taken) (laws.node above.initial set.iksn (path_of set.counter) above.initial_is.is_key) in
+      subst (IsPinBlock purchase.pin purchase.pan) (sym (laws.deciphered (pin_key_of key) purchase.pin purchase.pan (laws.pin_key key is_key) readable)) readable
+
   own_request : (purchase : Purchase) (before after : TerminalOf C) (frame : Frame) (begun : IsBegun m.cell purchase before after frame.items) → AreRegistersAboveUsed keys requests begun.set → IsOwnKeyRequest keys frame
   own_request purchase before after frame begun above =
       let set = begun.set in
       let key = begun.key in
       let takes = begun.takes.takes in
       let is_request = laws.request purchase before after frame.items begun in
-      let readable = laws.readable purchase before after frame.items begun in
-      let taken = laws.taken above.initial set begun.left key takes.usable takes.taken above.future_keys in
-      let is_key : IsKey 16 key = subst (IsKey 16) (sym taken) (laws.node above.initial set.iksn (path_of set.counter) above.initial_is.is_key) in
       record {
         request = request_of key (serial_of set) purchase.pan purchase.pin purchase.amount;
         pin = purchase.pin;
         is_request = is_request;
         authentic = record { key = key; key_is = own_transaction_key set begun.left key takes is_request.fields.ksn_is above; mac_is = refl };
         frame_is = begun.frame_is;
-        pin_is_found = subst (IsPinBlock purchase.pin purchase.pan) (sym (laws.deciphered (pin_key_of key) purchase.pin purchase.pan (laws.pin_key key is_key) readable)) readable;
+        pin_is_found = pin_found purchase before after frame.items begun above;
       }
 
   own_reversal : (reversed ksn : Serial) (before after : TerminalOf C) (frame : Frame) (begun : IsReversalBegun m.cell reversed ksn frame.items before after) → AreRegistersAboveUsed keys requests begun.set → IsOwnKeyReversal keys frame

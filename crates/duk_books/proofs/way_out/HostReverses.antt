@@ -5,13 +5,14 @@ use Rattle.duk_host.specs.declared.fault.HostFault.{HostFault}
 use Rattle.duk_host.specs.declared.fault.HostFault.TheVariants as host_fault
 use Rattle.duk_journal.specs.Entry.{reversed_by}
 use Rattle.duk_journal.specs.Groups.{Entries}
-use Rattle.duk_journal.specs.Journal.{GroupAppendFailed, JournalMeaning}
+use Rattle.duk_journal.specs.Journal.{JournalMeaning}
+use Rattle.duk_store.specs.Listed.{GroupAppendFailed}
 use Rattle.duk_journal.specs.Standing.{numbers_in, used_by}
 use Rattle.duk_journal.specs.declared.entry.Decided.{Decided}
 use Rattle.duk_journal.specs.declared.entry.Decided.TheVariants.{Payment, Reversal}
-use Rattle.duk_line.specs.Group.{GroupRefused}
-use Rattle.duk_line.specs.Host.{HostOf, IndexOf, JudgesBy, basis_of}
-use Rattle.duk_line.specs.Judgement.{IsJudged, IsReasonAgainst, IsReversalAcceptable, IsReversalReplyWith, LineBasis}
+use Rattle.duk_journal_host.specs.Group.{GroupRefused}
+use Rattle.duk_journal_host.specs.Host.{HostOf, IndexOf, JudgesBy, basis_of}
+use Rattle.duk_journal_host.specs.Judgement.{IsJudged, IsReasonAgainst, IsReversalAcceptable, IsReversalReplyWith, LineBasis}
 use Rattle.duk_reversal.specs.Reversal.{IsReversal}
 use Rattle.duk_reversal.specs.declared.reversal.Reversal as reversal_frame
 use Rattle.duk_reversal.specs.declared.state.ReversalState.{ReversalState}
@@ -100,6 +101,16 @@ append_fails journal old new added _ runs failed = absurd failed
 stopped_host : {J I : Type 0} (host : HostOf J I) (index : IndexOf) → host.state ≡ Some index → host.state ≡ None → ⊥
 stopped_host host index runs stopped = cc
 
+-- a running host whose journal's device does not fail answers
+module _ {C B J I : Type 0} (m : Meanings C B J I) (old new : BooksOf C B J I) (entries : Entries) (judges : JudgesBy m.host old.host entries) where
+  pub refuses : (frames answers : List (List ℕ)) (why : HostFault) → why ≢ host_fault.NoMemory → ¬ IsJournalFault why store_fault.Device → GroupRefused m.host frames old.host new.host answers why → ⊥
+  refuses frames answers host_fault.NoMemory other spared is = other refl
+  refuses frames answers (host_fault.Store why) other spared is =
+      let failed = is.0.not_kept entries judges in
+      spared (append_fails m.host.journal old.host.journal new.host.journal failed.2 why judges.kept.runs failed.4)
+  refuses frames answers host_fault.Stopped other spared is = stopped_host old.host judges.index judges.runs is.0
+  refuses frames answers _ other spared is = is
+
 -- the host's reply to a reversal, as the next answer
 pub record RepliesTo {C B J I : Type 0} (old : BooksOf C B J I) (reversal : reversal_frame.Reversal) (new : BooksOf C B J I) : Type 0 where
   pub answer : Frame
@@ -125,17 +136,9 @@ module _ {C B J I : Type 0} (m : Meanings C B J I) (laws : FrameLaws) (old new :
         keys = is.answered.ends.keys;
       }
 
-  refuses : (frames answers : List (List ℕ)) (why : HostFault) → why ≢ host_fault.NoMemory → ¬ IsJournalFault why store_fault.Device → GroupRefused m.host frames old.host new.host answers why → ⊥
-  refuses frames answers host_fault.NoMemory other spared is = other refl
-  refuses frames answers (host_fault.Store why) other spared is =
-      let failed = is.0.not_kept entries judges in
-      spared (append_fails m.host.journal old.host.journal new.host.journal failed.2 why judges.kept.runs failed.4)
-  refuses frames answers host_fault.Stopped other spared is = stopped_host old.host judges.index judges.runs is.0
-  refuses frames answers _ other spared is = is
-
   pub replies_to : (outcome : Outcome) → ReachesHost m old k outcome new → ¬ ReportsFault outcome ends.Host store_fault.Device → RepliesTo old reversal new
   replies_to came.NoSuchFrame is spared = absurd (not_missing old.requests k (one_there old.requests k frame at) is.0)
-  replies_to (came.HostFaulted why) is spared = absurd (refuses (is.frame.items ∷ []) is.answers why is.not_memory spared is.faulted)
+  replies_to (came.HostFaulted why) is spared = absurd (refuses m old new entries judges (is.frame.items ∷ []) is.answers why is.not_memory spared is.faulted)
   replies_to (came.Accepted n ksn code) is spared = is_answered (came.Accepted n ksn code) is
   replies_to (came.Repeated n ksn code) is spared = is_answered (came.Repeated n ksn code) is
   replies_to (came.Refused n ksn why) is spared = is_answered (came.Refused n ksn why) is

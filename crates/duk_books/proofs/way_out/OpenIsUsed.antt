@@ -66,7 +66,7 @@ taken_used : NumberLaws → (set left : RegisterSet) (key : List ℕ) (ksn : Ser
 taken_used laws set left key ksn takes is =
     subst (λ (it : Serial). HasUsed left it) (sym is) (record { same_iksn = sym takes.taken.same_iksn; usable = takes.usable; below = above_taken laws set left key takes })
 
-same_set : (state : State) (one other : RegisterSet) (waits awaits : Option Pending) → state ≡ Loaded one waits → state ≡ Loaded other awaits → one ≡ other
+pub same_set : (state : State) (one other : RegisterSet) (waits awaits : Option Pending) → state ≡ Loaded one waits → state ≡ Loaded other awaits → one ≡ other
 same_set state one other waits awaits is also = cc
 
 -- ---- nothing is open at rest

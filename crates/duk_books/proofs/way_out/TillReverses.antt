@@ -108,10 +108,10 @@ pub record ReplyReading : Type 0 where
   pub apart : (bytes : List ℕ) (answer : AnswerFrame) (reply : ReversalReply) → IsAnswer bytes answer → ¬ IsReversalReply bytes reply
   pub told : (response_key : List ℕ) (numbers : Numbers) (state : ReversalState) → AreNumbers numbers → IsReversalReply (reversal_reply_under response_key numbers state) (reversal_reply_of response_key numbers state)
 
-stopped_not_loaded : (state : State) (set : RegisterSet) (pending : Option Pending) → state ≡ Loaded set pending → state ≡ Stopped → ⊥
+pub stopped_not_loaded : (state : State) (set : RegisterSet) (pending : Option Pending) → state ≡ Loaded set pending → state ≡ Stopped → ⊥
 stopped_not_loaded state set pending is stopped = cc
 
-same_pending : (state : State) (set other : RegisterSet) (one also : Pending) → state ≡ Loaded set (Some one) → state ≡ Loaded other (Some also) → also ≡ one
+pub same_pending : (state : State) (set other : RegisterSet) (one also : Pending) → state ≡ Loaded set (Some one) → state ≡ Loaded other (Some also) → also ≡ one
 same_pending state set other one also is loaded = cc
 
 module _ {C B J I : Type 0} (m : Meanings C B J I) (laws : ReplyReading) (till : TillOf C B) (ksn : Serial) (amount : ℕ) (is_open : IsOpen till.state ksn amount) (set : RegisterSet) (pending : Pending)

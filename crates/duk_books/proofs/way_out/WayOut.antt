@@ -1,13 +1,13 @@
 -- The way out of a till: it comes to rest.
 use Rattle.std.proofs.Common.{◌≡◌, ◌≢◌, ◌⊎◌, ◌+◌, ◌<◌, ◌++◌, ◌∷◌, [], ℕ, List, Option, true, Some, None, Contains, length, inl, inr, refl, sym, ap, subst, ◌∙◌, arith}
 use Rattle.std.specs.List.{All, slice_get}
-use Rattle.std.proofs.lemmas.List.Elements.{All-contains, All-head, All-tail}
+use Rattle.std.proofs.lemmas.List.Elements.{All-contains}
 use Rattle.std.proofs.lemmas.Option.{slice_get_within}
 use Rattle.duk_hsm.specs.Commands.{IsTransactionKey}
 use Rattle.duk_hsm.specs.Keys.{HsmKeys, key_set_of}
 use Rattle.duk_journal.specs.Standing.{used_by}
-use Rattle.duk_line.specs.Host.{JudgesBy, basis_of}
-use Rattle.duk_line.specs.Judgement.{IsAuthenticReversal, IsReversalAcceptable}
+use Rattle.duk_journal_host.specs.Host.{JudgesBy, basis_of}
+use Rattle.duk_journal_host.specs.Judgement.{IsAuthenticReversal, IsReversalAcceptable}
 use Rattle.duk_regs.specs.Registers.{RegisterSet}
 use Rattle.duk_reversal.specs.Authentic.{reversal_of, reversal_reply_under}
 use Rattle.duk_reversal.specs.Reversal.{IsReversal}
@@ -29,7 +29,7 @@ use Rattle.duk_tree.specs.Serial.{IsSerial, Serial, iksn_prefix_of, prefix_of}
 use Rattle.duk_books.specs.Books.{BooksOf, Frame, IsAt, Meanings}
 use Rattle.duk_books.specs.Calm.{IsCalmAt, ReportsArming}
 use Rattle.duk_books.specs.Down.{ReachesTill}
-use Rattle.duk_books.specs.NoUsedKey.{IfLoaded, InEachTill, OwnsAboveUsed}
+use Rattle.duk_books.specs.NoUsedKey.{InEachTill, OwnsAboveUsed}
 use Rattle.duk_books.specs.OwnKeyOfRequests.{IsOwnKeySent}
 use Rattle.duk_books.specs.Reached.{Reached}
 use Rattle.duk_books.specs.Reverse.{Reverses}
@@ -40,23 +40,19 @@ use Rattle.duk_books.specs.Up.{ReachesHost}
 use Rattle.duk_books.specs.WayOut.{HasWayOut, IsAtRestAt, IsOpenAt, IsUndoneAt, ReportsNoWear, way_out_of}
 use Rattle.duk_books.specs.declared.event.End.{End}
 use Rattle.duk_books.specs.declared.event.End.TheVariants as ends
-use Rattle.duk_books.specs.declared.event.Event.{Event}
 use Rattle.duk_books.specs.declared.event.Event.TheVariants as event
 use Rattle.duk_books.specs.declared.outcome.Outcome.{Outcome}
 use Rattle.duk_books.specs.declared.outcome.Outcome.TheVariants as came
-use Rattle.duk_books.proofs.accepted.EndsOnce.{reached_hold}
 use Rattle.duk_books.proofs.accepted.ListsOfOutcomes.{any_of}
-use Rattle.duk_books.proofs.agreement.BooksHold.{lists_of, set_of}
-use Rattle.duk_books.proofs.agreement.Facts.{IsCalledBack}
-use Rattle.duk_books.proofs.agreement.HostHolds.{EntriesHold}
-use Rattle.duk_books.proofs.agreement.QuietCalls.{is_fresh, not_open_at_rest}
+use Rattle.duk_books.proofs.agreement.QuietCalls.{not_open_at_rest}
 use Rattle.duk_books.proofs.calm_stores.CalmStores.{reached_facts}
 use Rattle.duk_books.proofs.calm_stores.KnownStores.{StoreLaws}
-use Rattle.duk_books.proofs.moves.HostFinds.{judged_finds}
 use Rattle.duk_books.proofs.moves.ReachedByMoves.{reached_step}
 use Rattle.duk_books.proofs.moves.StepChanges.{at_contains}
-use Rattle.duk_books.proofs.way_out.HostReverses.{RepliesTo, not_used, replies_to}
+use Rattle.duk_books.proofs.way_out.HostReverses.{RepliesTo, replies_to}
+use Rattle.duk_books.proofs.way_out.NewNumber.{next_is_new}
 use Rattle.duk_books.proofs.way_out.OpenIsUsed.{reached_open}
+use Rattle.duk_books.proofs.way_out.RunsFirst.{run_ends, runs_first}
 use Rattle.duk_books.proofs.way_out.TillReverses.{ReplyReading, SendsReversal, one_open, sends, undoes}
 use Rattle.duk_books.proofs.way_out.Ups.{AreUp, GoesUp, goes_up, now_at, one_at, some_is}
 
@@ -76,7 +72,7 @@ next_in [] thing = refl
 next_in (first ∷ things) thing = next_in things thing
 
 -- the frame that is sent next
-next_at : {A : Type 0} (old new : List A) (thing : A) → new ≡ old ++ thing ∷ [] → IsAt new (length old + 1) thing
+pub next_at : {A : Type 0} (old new : List A) (thing : A) → new ≡ old ++ thing ∷ [] → IsAt new (length old + 1) thing
 next_at old new thing is = record { place = length old; number_is = refl; thing_is = subst (λ list. slice_get list (length old) ≡ Some thing) (sym is) (next_in old thing) }
 
 -- there is none yet
@@ -89,7 +85,7 @@ reverses_unarmed : {C B J I : Type 0} (m : Meanings C B J I) (old : BooksOf C B 
 reverses_unarmed m old t (came.Armed armed steps) new end is reports = is
 reverses_unarmed m old t _ new end is reports = reports
 
-reaches_unarmed : {C B J I : Type 0} (m : Meanings C B J I) (old : BooksOf C B J I) (k : ℕ) (outcome : Outcome) (new : BooksOf C B J I) (end : End) → ReachesHost m old k outcome new → ¬ ReportsArming end outcome
+pub reaches_unarmed : {C B J I : Type 0} (m : Meanings C B J I) (old : BooksOf C B J I) (k : ℕ) (outcome : Outcome) (new : BooksOf C B J I) (end : End) → ReachesHost m old k outcome new → ¬ ReportsArming end outcome
 reaches_unarmed m old k (came.Armed armed steps) new end is reports = is.says
 reaches_unarmed m old k _ new end is reports = reports
 
@@ -176,21 +172,8 @@ module _ {C B J I : Type 0} (m : Meanings C B J I) (laws : WayLaws m) (old : Boo
   authentic = authentic_of (All-contains (IsOwnKeySent sent.host.keys) sent.requests frame (laws.own sent sent_reached) (at_contains sent.requests (length old.requests + 1) frame frame_at))
 
   -- its number is new
-  above : OwnsAboveUsed old.host.keys old.requests old.owners t begins.set
-  above = subst (IfLoaded (OwnsAboveUsed old.host.keys old.requests old.owners t)) begins.takes.had (laws.above_used old up.reached t up.till up.at).registers
-
-  not_back : ¬ IsCalledBack old.requests (serial_of begins.set)
-  not_back back =
-      let holds = (reached_hold m laws.stores.books old up.reached).holds in
-      is_fresh laws.stores.books.calls m t (lists_of old holds.0) begins.set begins.left begins.key (serial_of begins.set) begins.takes.takes refl
-      (set_of m (lists_of old holds.0) t up.till begins.set begins.takes.pending (holds.1.tills t up.till up.at) begins.takes.had) (holds.1.called_back (serial_of begins.set) back)
-
   is_new : ¬ Contains (used_by up.entries) (serial_of begins.set)
-  is_new =
-      let holds = (reached_hold m laws.stores.books old up.reached).holds in
-      let hold = judged_finds m.host (EntriesHold old.requests old.answers) old.host up.entries holds.1.host up.judges in
-      not_used old.requests up.entries (serial_of begins.set) hold.came
-      (λ used. let below : begins.set.counter < begins.set.counter = above.above.above (serial_of begins.set) used refl in omega (arith, below)) not_back
+  is_new = next_is_new m laws.stores laws.above_used old up.reached t up.till up.at begins.set begins.left begins.key begins.takes.pending begins.takes.had begins.takes.takes up.entries up.judges
 
   judges : JudgesBy m.host sent.host up.entries
   judges = subst (λ host. JudgesBy m.host host up.entries) (sym same_host) up.judges
@@ -362,32 +345,6 @@ module _ {C B J I : Type 0} (m : Meanings C B J I) (laws : WayLaws m) (old : Boo
         ends_undone ksn is.amount (goes.finds_open ksn is.amount (subst (λ (it : TillOf C B). IsOpen it.state ksn is.amount) same is.is_open));
   }
 
--- the first event of a run whose outcomes say of no store that it is worn
-record RunsFirst {C B J I : Type 0} (m : Meanings C B J I) (old : BooksOf C B J I) (first : Event) (events : List Event) (new : BooksOf C B J I) : Type 0 where
-  outcome : Outcome
-  others : List Outcome
-  mid : BooksOf C B J I
-  step : Step m old first outcome mid
-  rest : Run m mid events others new
-  unworn : ReportsNoWear outcome
-  all_unworn : All ReportsNoWear others
-
-runs_first : {C B J I : Type 0} (m : Meanings C B J I) (old new : BooksOf C B J I) (first : Event) (events : List Event) (outcomes : List Outcome) → Run m old (first ∷ events) outcomes new → All ReportsNoWear outcomes → RunsFirst m old first events new
-runs_first m old new first events [] run unworn = absurd run
-runs_first m old new first events (outcome ∷ others) run unworn = record {
-  outcome = outcome;
-  others = others;
-  mid = run.0;
-  step = run.1;
-  rest = run.2;
-  unworn = All-head ReportsNoWear outcome others unworn;
-  all_unworn = λ k default within. All-tail ReportsNoWear outcome others unworn k default within;
-}
-
-run_ends : {C B J I : Type 0} (m : Meanings C B J I) (old new : BooksOf C B J I) (outcomes : List Outcome) → Run m old [] outcomes new → new ≡ old
-run_ends m old new [] run = run
-run_ends m old new (outcome ∷ outcomes) run = absurd run
-
 same_end : {C B J I : Type 0} (m : Meanings C B J I) (old mid new : BooksOf C B J I) (t : ℕ) → new ≡ mid → ComesOut m old mid t → ComesOut m old new t
 same_end {C} {B} {J} {I} m old mid new t same is = subst (λ (it : BooksOf C B J I). ComesOut m old it t) (sym same) is
 
@@ -401,5 +358,5 @@ way_out {C} {B} {J} {I} m laws old new t outcomes reached way run unworn =
     let c = runs_first m b.mid new (event.Reverse t) (up ∷ down ∷ []) b.others b.rest b.all_unworn in
     let d = runs_first m c.mid new up (down ∷ []) c.others c.rest c.all_unworn in
     let e = runs_first m d.mid new down [] d.others d.rest d.all_unworn in
-    same_end m old e.mid new t (run_ends m e.mid new e.others e.rest)
+    same_end m old e.mid new t (run_ends m e.mid new e.others e.rest).0
     (comes_out m laws old t reached way a.mid b.mid c.mid d.mid e.mid a.outcome b.outcome c.outcome d.outcome e.outcome a.step b.step c.step d.step e.step c.unworn e.unworn)

@@ -8,8 +8,8 @@ ghost use Rattle.duk_books.specs.Up.{IsUpLeft, ReachesHost, SaysAnswer};
 ghost use Rattle.duk_books.specs.declared.outcome.Outcome.TheVariants as came;
 ghost use Rattle.duk_books.specs.Frames.{IsReversalReplyFrame};
 ghost use Rattle.duk_books.specs.inner.Up.{IsAnswerFrame, SaysReversed, said_by};
-ghost use Rattle.duk_line.specs.Group.{AnswersFrames, GroupRefused};
-ghost use Rattle.duk_line.specs.Host.{host_meaning_of};
+ghost use Rattle.duk_journal_host.specs.Group.{AnswersFrames, GroupRefused};
+ghost use Rattle.duk_journal_host.specs.Host.{host_meaning_of};
 
 use crate::event::End;
 use crate::frames::{copy_of, is_among};
@@ -19,7 +19,7 @@ use crate::system::System;
 use duk_frame::{AnswerFrame, Frame, read_answer};
 use duk_host::{HostFault, Issuer};
 use duk_journal::Journal;
-use duk_line::{Group, JournalHost};
+use duk_journal_host::{Group, JournalHost};
 use duk_reversal::read_reversal_reply;
 use duk_store::Cell;
 use std::alloc::AllocError;
@@ -51,7 +51,7 @@ fn answer_alone<const N: usize, J: Journal, I: Issuer>(
         (host_meaning_of J.meaning I.decides)
         (frame.now.items ∷ []) host.old host.new answers why) }
 {
-    duk_line::laws::answers();
+    duk_journal_host::laws::answers();
     host.judges();
     host.answer(slice::from_ref(frame), group)?;
     Ok(first_answer(group))

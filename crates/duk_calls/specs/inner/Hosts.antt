@@ -1,6 +1,6 @@
 -- What the parts of the calls over the frames of a host promise to each other: this project's own.
 use Rattle.std.specs.Prelude.{◌<◌, ◌++◌, ℕ, zero, suc, List, [], ◌∷◌, slice_index_or}
-use Rattle.duk_line.specs.declared.settlement.Settled.{Settled}
+use Rattle.duk_journal_host.specs.declared.settlement.Settled.{Settled}
 use Rattle.duk_calls.specs.Answer.{part_at}
 use Rattle.duk_calls.specs.Hosts.{SaysSettled}
 use Rattle.duk_calls.specs.Requests.{front_frame}

@@ -1,16 +1,11 @@
 -- What the parts of the calls over security modules promise to each other: this project's own.
-use Rattle.std.specs.Prelude.{◌≡◌, ◌⊎◌, ◌<◌, ◌≤◌, ◌+◌, ◌++◌, ℕ, List, ◌∷◌, drop, length, replicate}
-use Rattle.byteorder.specs.Endian.{big_bytes}
+use Rattle.std.specs.Prelude.{◌≡◌, ◌⊎◌, ◌<◌, ◌≤◌, ◌+◌, ℕ, List, length}
 use Rattle.duk_hsm.specs.Keys.{HsmKeys}
 use Rattle.duk_hsm.specs.declared.fault.HsmFault.{HsmFault}
 use Rattle.duk_calls.specs.Answer.{with_front}
-use Rattle.duk_calls.specs.Modules.{IsModule, IsNoModule, IsReasonIn, count_in, entry_at, lmk_in}
+use Rattle.duk_calls.specs.Modules.{IsModule, IsNoModule, IsReasonIn, count_in, entry_at, image_with, lmk_in}
 use Rattle.duk_calls.specs.declared.fault.Fault.{Fault}
 use Rattle.duk_calls.specs.declared.fault.Fault.TheVariants as fault
-
--- an entry, as far as its key block
-abbrev pub entry_bytes : ℕ → List ℕ → List ℕ → List ℕ
-entry_bytes kind prefix block = big_bytes 2 (length block) ++ kind ∷ prefix ++ block
 
 -- a module has this entry behind those that it had
 pub record IsAppended (entry old new : List ℕ) : Type 0 where
@@ -19,6 +14,7 @@ pub record IsAppended (entry old new : List ℕ) : Type 0 where
   pub lmk_is : lmk_in new ≡ lmk_in old
   pub before : (i : ℕ) → i < count_in old → entry_at new i ≡ entry_at old i
   pub entry_is : entry_at new (count_in old) ≡ with_front entry (entry_at old (count_in old))
+  pub image_is : new ≡ image_with entry old
 
 -- the module has keys with which the key of a key block is loaded, and room for an entry more
 pub record MayBeLoaded (Loads : HsmKeys → HsmKeys → Type 0) (image block : List ℕ) : Type 0 where
@@ -33,8 +29,3 @@ pub record MayBeLoaded (Loads : HsmKeys → HsmKeys → Type 0) (image block : L
 abbrev pub MayNotBeLoaded : (HsmKeys → HsmFault → Type 0) → List ℕ → Fault → Type 0
 MayNotBeLoaded Refuses image why =
     ((why ≡ fault.NotAModule) × IsNoModule image) ⊎ IsReasonIn Refuses image why
-
--- the image of a module that has its local master key alone
-abbrev pub new_image : List ℕ → List ℕ
-new_image lmk =
-    replicate 4681 0 ++ length lmk ∷ lmk ++ drop (length lmk) (replicate 24 0)

@@ -15,6 +15,7 @@ pub(crate) fn fits(request: &Request<'_>) -> bool
         CommandName::Request => commands::request::fits(request),
         CommandName::Find => commands::find::fits(request),
         CommandName::Show => commands::show::fits(request),
+        CommandName::Lmk => commands::lmk::fits(request),
         _ => true,
     }
 }

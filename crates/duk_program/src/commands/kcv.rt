@@ -19,7 +19,7 @@ pub(crate) fn usage<'a>() -> Usage<'a>
     Usage {
         name: "kcv",
         way: Way::Lines,
-        answers: Answers::Without("components", Shape::Items(VALUES)),
+        answers: Answers::ByOption("components", Shape::Whole, Shape::Items(VALUES)),
         about: "Prints the check values of keys, or of the components of a key and of the key",
         after_help: HELP,
         conflict: None,

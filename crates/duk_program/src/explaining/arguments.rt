@@ -65,7 +65,7 @@ fn wanted_of(about: About<'_, '_>, name: &str) -> &'static str {
         "IKSN" => "20 hexadecimal digits, the last 21 bits zeros",
         "KBPK" | "LOADING" | "ZONE" => DOUBLE_OR_TRIPLE,
         "KCV" => "6 hexadecimal digits",
-        "KEY" if enciphers || has("FIELDS") => DOUBLE_OR_TRIPLE,
+        "KEY" if enciphers || wraps(about) => DOUBLE_OR_TRIPLE,
         "KEY" if has("cmac") => DOUBLE_OR_TRIPLE,
         "BDK" | "KEY" => DOUBLE,
         "KIND" => "frame, block, image, log or journal",
@@ -90,6 +90,11 @@ fn wanted_of(about: About<'_, '_>, name: &str) -> &'static str {
         }
         _ => "16 hexadecimal digits",
     }
+}
+
+/// Whether a key is wrapped in a key block.
+pub(crate) fn wraps(about: About<'_, '_>) -> bool {
+    about.request.flag("FIELDS") || about.request.flag("fields")
 }
 
 /// A key; of several the first that is none, or else the first whose length is not that of KEY 1.

@@ -1,6 +1,8 @@
 //! What is told of each fault, before any file is asked.
 
-use crate::explaining::arguments::{counter, iksn, issue_count, key, refused, text, walk_count};
+use crate::explaining::arguments::{
+    counter, iksn, issue_count, key, refused, text, walk_count, wraps,
+};
 use crate::explaining::files::{
     failed, longer, memory, name_of, of_script, of_serve, output, under, unmade, unopened, unread,
 };
@@ -13,6 +15,7 @@ use crate::secrets::{SecretFault, Unread};
 use duk_block::BlockFault;
 use duk_commands::issue::IssueFault;
 use duk_commands::{BatchFault, Fault as CommandFault, FindFault};
+use duk_components::ComponentFault;
 use duk_pin::PinFault;
 use duk_service::copy_journal::CopyJournalFault;
 use duk_service::new_file::NewFileFault;
@@ -25,6 +28,7 @@ pub(crate) fn of_fault(about: About<'_, '_>, why: &Fault) -> Seen {
         Fault::Command(why) => of_command(about, *why),
         Fault::Find(why) => of_find(about, *why),
         Fault::Show(why) => of_show(about, *why),
+        Fault::Lmk(why) => of_lmk(about, *why),
         Fault::Issue(why) => of_issue(about, *why),
         Fault::Batch(BatchFault::ItemsRefused) => words("input", "lines that are refused").wanted(
             "one item a line; the fault of each stands in its place",
@@ -122,7 +126,7 @@ pub(crate) fn of_command(about: About<'_, '_>, why: CommandFault) -> Seen {
 /// A key block, or a key that is wrapped in one.
 fn of_key_block(about: About<'_, '_>, why: BlockFault) -> Seen {
     match why {
-        BlockFault::HeaderField if about.request.flag("FIELDS") => {
+        BlockFault::HeaderField if wraps(about) => {
             about.seen("FIELDS", Kind::Printable, "printable characters")
         }
         BlockFault::Length
@@ -191,6 +195,29 @@ pub(crate) fn of_show(about: About<'_, '_>, why: ShowFault) -> Seen {
 /// A log or a journal that is shown.
 fn shown_record(place: usize) -> Seen {
     under("WHAT", "WHAT", Found::Record(place as u64))
+}
+
+/// Components of a local master key.
+fn of_lmk(about: About<'_, '_>, why: ComponentFault) -> Seen {
+    match why {
+        ComponentFault::Number => words("COMPONENT", "too few or too many").wanted("2 to 9 lines"),
+        ComponentFault::Component(place) => {
+            let wanted = "32 or 48 digits as those before it, a space, and their check value";
+            let place = place.saturating_sub(1);
+            let length = about.text("COMPONENT", place).len();
+            about
+                .placed(Seen::new("COMPONENT", Found::Text(length, None)), place)
+                .wanted(wanted)
+        }
+        ComponentFault::Weak => words("COMPONENT", "components of a weak key").wanted(
+            "components of a key that kcv does not call weak",
+        ),
+        ComponentFault::Random => {
+            let wanted = "one text of 32 or 48 random digits, of a key that kcv does not call weak";
+            about.seen("COMPONENT", Kind::Hexadecimal, wanted)
+        }
+        ComponentFault::Wrap(why) => of_command(about, why),
+    }
 }
 
 /// Keys that are issued.

@@ -1,12 +1,12 @@
 -- What only private functions and proofs say beside `CopyJournal.antt`: this project's own.
 use Rattle.std.specs.Prelude.{◌≢◌, ◌≡◌, ◌⊎◌, ⊤, ℕ, length}
-use Rattle.duk_copy.specs.Copy.{IsCopied}
+use Rattle.duk_journal_copy.specs.Copy.{IsCopied}
 use Rattle.duk_host.specs.declared.fault.HostFault.TheVariants.{Store}
 use Rattle.duk_journal.specs.DiskJournal.{DiskJournalOf, disk_journal_meaning, new_disk_journal}
 use Rattle.duk_journal.specs.Groups.{Entries, KeepsEntries}
 use Rattle.duk_journal.specs.Journal.{JournalMeaning}
-use Rattle.duk_line.specs.Check.{CheckRefused, IsChecked}
-use Rattle.duk_line.specs.declared.check.Checked.{Checked}
+use Rattle.duk_journal_host.specs.Check.{CheckRefused, IsChecked}
+use Rattle.duk_journal_host.specs.declared.check.Checked.{Checked}
 use Rattle.duk_service.specs.CopyJournal.{IsCopyRefused, IsFilledUnchecked, IsNoOwnJournal, IsOtherJournal}
 use Rattle.duk_service.specs.LogFiles.{DiskKnown, FolderKnown, IsDisk, IsFolderSynced, IsFolderUnsynced, IsNoDisk, MakingKnown}
 use Rattle.duk_service.specs.NewFile.{IsNoneOrWhole, IsUnmade}

@@ -1,6 +1,6 @@
 -- What only private functions and proofs say beside `NewFile.antt`: this project's own.
 use Rattle.std.specs.Prelude.{◌≢◌, ◌≡◌, ◌⊎◌, ℕ}
-use Rattle.duk_copy.specs.Blank.{IsBlankWritten}
+use Rattle.duk_journal_copy.specs.Blank.{IsBlankWritten}
 use Rattle.duk_service.specs.LogFiles.{BeginsUnfinished, BeginsZero, FolderKnown, IsFolderSynced, IsFolderUnsynced}
 use Rattle.duk_service.specs.NewFile.{IsZeroDisk}
 use Rattle.duk_service.specs.declared.left_records.RecordFormat.{RecordFormat}

@@ -3,8 +3,8 @@ use borrow.Author.Count.{below_more}
 use borrow.Rule.Slice.PartMut.{put_mid}
 use Rattle.std.proofs.lemmas.List.{get_or-take, length-take-le, take_all}
 use Rattle.arrayvec.specs.ArrayVec.{ArrayVec}
-use Rattle.duk_line.specs.Candidate.{IsAnswered}
-use Rattle.duk_line.specs.declared.settlement.Settled.{Settled}
+use Rattle.duk_journal_host.specs.Candidate.{IsAnswered}
+use Rattle.duk_journal_host.specs.declared.settlement.Settled.{Settled}
 use Rattle.duk_calls.specs.Answer.{part_at}
 use Rattle.duk_calls.specs.Hosts.{SaysAnswer, SaysSettled}
 use Rattle.duk_calls.proofs.HostPlaces.{as_many_paired, paired_at}

@@ -3,7 +3,7 @@ use Rattle.std.specs.Option.{IsSome}
 use Rattle.std.proofs.lemmas.Bool.{false≢true}
 use Rattle.duk_hsm.specs.Keys.{key_set_of}
 use Rattle.duk_hsm.specs.declared.fault.HsmFault.TheVariants as hsm
-use Rattle.duk_line.specs.Steps.{number_in}
+use Rattle.duk_journal_host.specs.Steps.{number_in}
 use Rattle.duk_tree.specs.Path.{IsUsable}
 use Rattle.duk_tree.specs.Serial.{Serial, prefix_of}
 use Rattle.duk_calls.specs.Hosts.{padded}
@@ -28,7 +28,8 @@ returns-then-usable g c =
     let counter : c.counter.result ≡ number.counter = c.counter.ensures.value ∙ ap (λ (serial : Serial). serial.counter) c.number_in-number.ensures in
     let held : IsSome (key_set_of keys (prefix_of number)) = subst (λ prefix. IsSome (key_set_of keys prefix)) prefix (c.has_key_set.ensures.held.0 has) in
     let usable : IsUsable number.counter = subst IsUsable counter (c.usable.ensures.usable.0 is) in
-    inl (c.args.frame.now.items, c.requires.answer (with_key keys number held usable), c.padded.ensures ∙ ap padded c.as_slice.ensures.value)
+    let key = with_key keys number held usable in
+    inl (key, c.args.frame.now.items, c.requires.answer key, c.padded.ensures ∙ ap padded c.as_slice.ensures.value)
 
 pub returns-else-usable : goal.returns-else-usable
 returns-else-usable g c =

@@ -1,5 +1,5 @@
 use Rattle.std.proofs.Common.{◌≡◌, ◌+◌, ◌-◌, ◌*◌, ◌∙◌, ℕ, arith, drop, length-set, subst, take}
-use Rattle.duk_line.specs.declared.settlement.Settled.{Settled}
+use Rattle.duk_journal_host.specs.declared.settlement.Settled.{Settled}
 use Rattle.duk_calls.specs.Answer.{part_at}
 use Rattle.duk_calls.specs.Hosts.{SaysSettled}
 use Rattle.duk_calls.proofs.Places.{written_below}

@@ -1,6 +1,6 @@
 use Rattle.std.proofs.Common.{◌≡◌, ◌<◌, ℕ, get_or, length}
 use Rattle.duk_group.specs.declared.transposed.TheConstants.{WIDTH}
-use Rattle.duk_line.specs.declared.settlement.Settled.{Settled}
+use Rattle.duk_journal_host.specs.declared.settlement.Settled.{Settled}
 use Rattle.duk_calls.specs.Answer.{part_at}
 use Rattle.duk_calls.specs.Hosts.{SaysSettled}
 use Rattle.duk_calls.proofs.answering.settled_in.Given as goal

@@ -4,8 +4,8 @@ use borrow.Rule.Slice.PartMut.{put_mid}
 use Rattle.std.proofs.lemmas.List.{take_all}
 use Rattle.arrayvec.specs.ArrayVec.{ArrayVec}
 use Rattle.duk_host.specs.Table.{table_decision}
-use Rattle.duk_line.specs.Candidate.{ArePaired, IsJudgedTo}
-use Rattle.duk_line.specs.declared.candidate.Judgement.{Judgement}
+use Rattle.duk_journal_host.specs.Candidate.{ArePaired, IsJudgedTo}
+use Rattle.duk_journal_host.specs.declared.candidate.Judgement.{Judgement}
 use Rattle.duk_calls.specs.Answer.{part_at}
 use Rattle.duk_calls.specs.Hosts.{SaysJudgement}
 use Rattle.duk_calls.specs.Requests.{front_frame}

@@ -1,8 +1,7 @@
 use Rattle.std.proofs.Common.{◌≡◌, ◌+◌, ◌-◌, ◌*◌, ◌∙◌, ap, arith, drop, length, length-drop, rules, take}
 use Rattle.std.proofs.lemmas.List.{length-take-le}
 use Rattle.duk_calls.specs.Answer.{with_front}
-use Rattle.duk_calls.specs.Modules.{count_in}
-use Rattle.duk_calls.specs.inner.Modules.{entry_bytes}
+use Rattle.duk_calls.specs.Modules.{count_in, entry_bytes}
 use Rattle.duk_calls.proofs.Entries.{appended}
 use Rattle.duk_calls.proofs.modules.append.Goals as goal
 

@@ -1,6 +1,7 @@
 use Rattle.std.proofs.Common.{◌≡◌, length, refl, rules, subst}
 use Rattle.duk_hsm.specs.Load.{IsBdkLoaded, LoadBdkRefused}
-use Rattle.duk_calls.specs.inner.Modules.{IsAppended, MayBeLoaded, MayNotBeLoaded, entry_bytes}
+use Rattle.duk_calls.specs.Modules.{entry_bytes}
+use Rattle.duk_calls.specs.inner.Modules.{IsAppended, MayBeLoaded, MayNotBeLoaded}
 use Rattle.duk_calls.proofs.Entries.{module_with_bdk}
 use Rattle.duk_calls.proofs.Loading.{refused_so}
 use Rattle.duk_calls.proofs.modules.module_load_bdk.Goals as goal
@@ -23,6 +24,7 @@ returns-in-Ok c =
         was_module = may.is_module;
         is_module = module_with_bdk image c.append.new.image prefix block may.before may.after may.is_module size may.fits appended may.loads;
         loads = may.loads;
+        image_is = appended.image_is;
       },
     )
 

@@ -16,6 +16,7 @@ returns-in-Ok c =
         was_module = may.is_module;
         is_module = module_with_zone image c.append.new.image (0 ∷ 0 ∷ 0 ∷ 0 ∷ 0 ∷ []) block may.before may.after may.is_module refl may.fits c.append.ensures may.loads;
         loads = may.loads;
+        image_is = c.append.ensures.image_is;
       },
     )
 

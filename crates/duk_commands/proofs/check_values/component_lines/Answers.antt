@@ -15,8 +15,8 @@ returns-in_err-component c =
     ap tdes_key_of_text (get_or-map (λ text. text.now) c.args.texts.now i _ [] (omega arith)) ∙ sym c.parse.ensures ∙ c.in_err-component.was in
     rw c.from_residual.ensures (λ accepted. none_written texts i inside none accepted.0 accepted.1)
 
-pub returns-in_err-add : goal.returns-in_err-add
-returns-in_err-add c =
+pub returns-in_err-add_component : goal.returns-in_err-add_component
+returns-in_err-add_component c =
     let texts : List (List ℕ) = map (λ text. text.now) c.args.texts.now in
     let i = c.loop-text.text-index in
     let now = c.loop-text.invariant in
@@ -24,8 +24,8 @@ returns-in_err-add c =
     let inside : i < length texts = omega (arith, length-map c.args.texts.now (λ text. text.now)) in
     let read : tdes_key_of_text (get_or texts i []) ≡ Some component =
     ap tdes_key_of_text (get_or-map (λ text. text.now) c.args.texts.now i _ [] (omega arith)) ∙ sym c.parse.ensures ∙ c.in_ok-component.was in
-    rw c.from_residual-in_err-add.ensures (λ accepted.
-    other_sum texts now.keys i c.loop-text.sum component inside now.written now.sum read c.in_err-add.ensures.none accepted.0 accepted.1 accepted.2)
+    rw c.from_residual-in_err-add_component.ensures (λ accepted.
+    other_sum texts now.keys i c.loop-text.sum component inside now.written now.sum read c.in_err-add_component.ensures.none accepted.0 accepted.1 accepted.2)
 
 pub loop-text-preserved : goal.loop-text-preserved
 loop-text-preserved c =
@@ -39,7 +39,7 @@ loop-text-preserved c =
     record {
       keys = now.keys ++ component ∷ [];
       written = write_more texts now.keys i component inside now.written read;
-      sum = c.in_ok-add.ensures.added now.keys now.sum;
+      sum = c.in_ok-add_component.ensures.added now.keys now.sum;
       lines = lines_more component_values now.keys component c.loop-text.lines.items _ now.lines c.push_component.ensures.lines;
       length = omega (arith, now.length, c.push_component.ensures.len);
     }

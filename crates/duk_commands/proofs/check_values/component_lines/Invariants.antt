@@ -1,8 +1,7 @@
 use Rattle.std.proofs.Common.{◌≡◌, ◌*◌, List, map, take}
 use Rattle.arrayvec.specs.ArrayVec.{array_vec_len}
 use Rattle.duk_tdes.specs.declared.key.KeyBytes.{KeyBytes}
-use Rattle.duk_commands.specs.CheckValues.{Write, component_values, lines_of}
-use Rattle.duk_commands.specs.inner.CheckValues.{IsSumOf}
+use Rattle.duk_commands.specs.CheckValues.{IsSumOf, Write, component_values, lines_of}
 use Rattle.duk_commands.proofs.check_values.component_lines.Given as goal
 
 -- the texts so far write components, their lines stand there, and their sum is known

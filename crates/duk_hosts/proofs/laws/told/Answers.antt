@@ -1,5 +1,5 @@
 use Rattle.std.proofs.Common.{◌++◌}
-use Rattle.duk_line.specs.Judged.{TellWhatIsKept}
+use Rattle.duk_journal_host.specs.Judged.{TellWhatIsKept}
 use Rattle.duk_hosts.specs.Events.{kept_after}
 use Rattle.duk_hosts.proofs.Standing.{left_by_all}
 use Rattle.duk_hosts.proofs.Turns.{StepLaws}

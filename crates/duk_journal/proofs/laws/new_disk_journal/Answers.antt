@@ -1,7 +1,5 @@
-use Rattle.std.proofs.Common.{◌*◌}
-use Rattle.duk_store.specs.MemoryDisk.{memory_disk_state, new_disk}
-use Rattle.duk_journal.proofs.JournalOnDisk.{new_journal_is, new_records_are_blank}
+use Rattle.std.proofs.Common.{refl}
 use Rattle.duk_journal.proofs.laws.new_disk_journal.Goals as goal
 
 pub returns : goal.returns
-returns c = λ records some. new_journal_is c.serials.ensures.ten c.serials.ensures.found (memory_disk_state (new_disk (32 * records))) (new_records_are_blank records some)
+returns c = λ records some. c.new_disk_records.ensures refl records some

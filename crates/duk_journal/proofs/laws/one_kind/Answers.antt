@@ -1,4 +1,4 @@
-use Rattle.duk_journal.proofs.KeptEntries.{same_kind}
+use Rattle.duk_journal.proofs.SaidEntries.{same_kind}
 use Rattle.duk_journal.proofs.laws.one_kind.Goals as goal
 
 pub returns : goal.returns

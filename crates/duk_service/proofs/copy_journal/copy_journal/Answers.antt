@@ -1,6 +1,6 @@
 use Rattle.std.proofs.Common.{subst}
 use Rattle.duk_journal.specs.DiskJournal.{disk_journal_meaning}
-use Rattle.duk_line.specs.Check.{IsChecked}
+use Rattle.duk_journal_host.specs.Check.{IsChecked}
 use Rattle.duk_service.specs.inner.CopyJournal.{CopyNotMade, IsCopyMade, IsNotChecked}
 use Rattle.duk_service.proofs.CopiedJournal.{has_copied, not_checked, not_copied, not_opened}
 use Rattle.duk_service.proofs.Results.{if_err, on_ok}

@@ -1,6 +1,6 @@
 use Rattle.std.proofs.Common.{subst}
 use Rattle.duk_journal.specs.DiskJournal.{disk_journal_meaning, new_disk_journal}
-use Rattle.duk_line.specs.Check.{IsChecked}
+use Rattle.duk_journal_host.specs.Check.{IsChecked}
 use Rattle.duk_service.specs.inner.CopyJournal.{CheckedNotKept, IsReadOver}
 use Rattle.duk_service.proofs.LeftDisks.{read_none}
 use Rattle.duk_service.proofs.copy_journal.keep_new.Goals as goal

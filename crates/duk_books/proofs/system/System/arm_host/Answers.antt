@@ -1,5 +1,5 @@
 use Rattle.std.proofs.Common.{refl}
-use Rattle.duk_line.specs.Host.{host_meaning_of}
+use Rattle.duk_journal_host.specs.Host.{host_meaning_of}
 use Rattle.duk_books.proofs.moves.HostAnswers.{still_judges}
 use Rattle.duk_books.proofs.system.System.arm_host.Goals as goal
 

@@ -1,6 +1,6 @@
 use Rattle.std.proofs.Common.{◌∷◌, [], map, subst, sym, ap, ◌∙◌}
-use Rattle.duk_line.specs.Group.{AnswersFrames}
-use Rattle.duk_line.specs.Host.{host_meaning_of}
+use Rattle.duk_journal_host.specs.Group.{AnswersFrames}
+use Rattle.duk_journal_host.specs.Host.{host_meaning_of}
 use Rattle.duk_books.proofs.moves.HostAnswers.{IsAnswerBytes, answer_alone, not_none}
 use Rattle.duk_books.proofs.system.host_events.answer_alone.Goals as goal
 

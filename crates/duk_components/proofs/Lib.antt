@@ -1,0 +1,5 @@
+mod BlockFaults
+mod ComponentsAreRead
+mod LinesOfComponents
+mod OddParity
+mod SumsOfKeys

@@ -1,0 +1,4 @@
+pub mod Blocks
+pub mod Components
+pub mod Fault
+pub mod NewComponent

@@ -1,5 +1,0 @@
-use Rattle.duk_copy.proofs.KeptFront.{unfinished_is_none}
-use Rattle.duk_copy.proofs.laws.unfinished.Goals as goal
-
-pub returns : goal.returns
-returns c bytes unfinished entries keeps = unfinished_is_none bytes unfinished entries keeps

@@ -1,9 +1,0 @@
-use Rattle.duk_store.specs.Disk.{StaysArmed}
-use Rattle.duk_journal.specs.inner.GroupSteps.{WritesContents}
-use Rattle.duk_journal.proofs.group_steps.write_contents.Given as goal
-
-abbrev pub invariant-loop-index : goal.invariant-loop-index
-invariant-loop-index g l = record {
-  written : WritesContents l.index l.group l.place (g.D.Disk.meaning.state_of l.fn.disk) (g.D.Disk.meaning.state_of l.disk);
-  arming : StaysArmed (g.D.Disk.meaning.state_of l.fn.disk) (g.D.Disk.meaning.state_of l.disk);
-}

@@ -1,9 +1,0 @@
-use Rattle.std.proofs.Common.{refl}
-use Rattle.duk_journal.proofs.reading.contents_in.Goals as goal
-
-pub returns-in-None-clause-none : goal.returns-in-None-clause-none
-returns-in-None-clause-none c = (
-  refl,
-  λ followers entry has.
-      let found = c.in-None.ensures.every (record { followers = followers; entry = entry }) has in cc,
-)

@@ -1,0 +1,82 @@
+//! A journal that keeps nothing: zeros over all of a disk.
+
+ghost use Rattle.std.specs.Prelude.{◌≡◌, ◌≤◌, [], replicate, IfErr, OnOk};
+ghost use Rattle.duk_store.specs.Disk.{HasFailed, PreservesDisk};
+ghost use Rattle.duk_journal_copy.specs.Blank.{IsBlankWritten};
+ghost use Rattle.duk_journal_copy.specs.InPart.{LeavesInPart};
+ghost use Rattle.duk_journal_copy.specs.inner.Blank.{AreZerosKept, AreZerosWritten, LeavesOutside};
+
+use crate::head::{HEAD_LENGTH, Head, settle_head};
+use duk_store::{Disk, StoreFault};
+
+/// The bytes of a piece: what is written to a disk at once.
+pub const PIECE_LENGTH: usize = 65_536;
+
+/// Writes zeros over all bytes of a disk, whatever they were, a piece of zeros at a time, and syncs
+/// them. A journal over it keeps nothing then. The first two bytes, a gate and a kind, are settled
+/// last, once all behind them is synced: a disk that begins as that of no journal is none until its
+/// gate is closed.
+///
+/// Refused with `Device` where a device step failed.
+pub fn write_blank<D: Disk>(disk: &mut D, zeros: &[u8]) -> Result<(), StoreFault>
+    requires { zeros.now ≡ replicate 65536 0 }
+    ensures blank { OnOk result (IsBlankWritten
+        (D.meaning.state_of disk.old) (D.meaning.state_of disk.new)) }
+    ensures failed { IfErr result
+        (HasFailed (D.meaning.state_of disk.old) (D.meaning.state_of disk.new)) }
+    ensures in_part { LeavesInPart []
+        (D.meaning.state_of disk.old) (D.meaning.state_of disk.new) }
+{
+    let size = disk.size();
+    if size < HEAD_LENGTH {
+        return write_synced(disk, zeros, 0, size);
+    }
+    write_synced(disk, zeros, HEAD_LENGTH, size)?;
+    settle_head(disk, Head { gate: 0, kind: 0 })
+}
+
+/// Writes zeros over the bytes of a disk from one place to another, and syncs it.
+pub(crate) fn write_synced<D: Disk>(
+    disk: &mut D,
+    zeros: &[u8],
+    from: u64,
+    to: u64,
+) -> Result<(), StoreFault>
+    requires zeros { zeros.now ≡ replicate 65536 0 }
+    requires order { from ≤ to }
+    requires inside { to ≤ (D.meaning.state_of disk.old).size }
+    ensures written { OnOk result (AreZerosKept from to
+        (D.meaning.state_of disk.old) (D.meaning.state_of disk.new)) }
+    ensures failed { IfErr result
+        (HasFailed (D.meaning.state_of disk.old) (D.meaning.state_of disk.new)) }
+    ensures nature { PreservesDisk
+        (D.meaning.state_of disk.old) (D.meaning.state_of disk.new) }
+    ensures outside { LeavesOutside from to
+        (D.meaning.state_of disk.old) (D.meaning.state_of disk.new) }
+{
+    write_zeros(disk, zeros, from, to)?;
+    disk.sync()
+}
+
+/// Writes zeros over the bytes of a disk from one place to another.
+fn write_zeros<D: Disk>(disk: &mut D, zeros: &[u8], from: u64, to: u64) -> Result<(), StoreFault>
+    requires zeros { zeros.now ≡ replicate 65536 0 }
+    requires order { from ≤ to }
+    requires inside { to ≤ (D.meaning.state_of disk.old).size }
+    ensures written { OnOk result (AreZerosWritten from to
+        (D.meaning.state_of disk.old) (D.meaning.state_of disk.new)) }
+    ensures failed { IfErr result
+        (HasFailed (D.meaning.state_of disk.old) (D.meaning.state_of disk.new)) }
+    ensures nature { PreservesDisk
+        (D.meaning.state_of disk.old) (D.meaning.state_of disk.new) }
+    ensures outside { LeavesOutside from to
+        (D.meaning.state_of disk.old) (D.meaning.state_of disk.new) }
+{
+    let mut at = from;
+    while at < to {
+        let count = (to - at).min(PIECE_LENGTH as u64);
+        disk.write_at(at, &zeros[..count as usize])?;
+        at += count;
+    }
+    Ok(())
+}

@@ -1,0 +1,11 @@
+pub mod Latest
+pub mod Index
+pub mod Gathered
+pub mod Draft
+pub mod Group
+pub mod Host
+pub mod Judged
+pub mod Steps
+pub mod Keep
+pub mod Reading
+pub mod Serve

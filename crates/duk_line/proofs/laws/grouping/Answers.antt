@@ -1,5 +1,0 @@
-use Rattle.duk_line.proofs.InTurn.{as_many, joined, parted}
-use Rattle.duk_line.proofs.laws.grouping.Goals as goal
-
-pub returns : goal.returns
-returns c = record { joined = joined; parted = parted; as_many = as_many }

@@ -1,5 +1,0 @@
-use Rattle.duk_line.proofs.Undone.{as_told, told_after}
-use Rattle.duk_line.proofs.laws.told_what_stands.Goals as goal
-
-pub returns : goal.returns
-returns c = record { frames = told_after; told = as_told }

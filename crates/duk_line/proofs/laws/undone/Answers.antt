@@ -1,5 +1,0 @@
-use Rattle.duk_line.proofs.Undone.{never_stands, no_more}
-use Rattle.duk_line.proofs.laws.undone.Goals as goal
-
-pub returns : goal.returns
-returns c = record { no_more = no_more; never_stands = never_stands }

@@ -1,5 +1,0 @@
-use Rattle.duk_line.proofs.NumbersTaken.{wider_if}
-use Rattle.duk_line.proofs.sets.insert.Goals as goal
-
-pub returns-clause-wider : goal.returns-clause-wider
-returns-clause-wider c = wider_if c.insert.result c.args.used.now c.insert.new.self c.args.number c.requires c.insert.ensures.added c.insert.ensures.fresh c.insert.ensures.same

@@ -1,4 +1,0 @@
-pub mod Groups
-pub mod GroupSteps
-pub mod Reading
-pub mod RecordSteps

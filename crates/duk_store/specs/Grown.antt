@@ -1,0 +1,8 @@
+-- A disk that is made larger: this project's own.
+use Rattle.std.specs.Prelude.{◌-◌, ℕ, replicate}
+use Rattle.duk_store.specs.Format.{FormatMeaning}
+
+-- the contents of a record of zeros say nothing in this format
+abbrev pub SaysNoZeros : {I : Type 0} → FormatMeaning I → Type 0
+SaysNoZeros {I} format = (place followers : ℕ) (item : I)
+    → ¬ format.says place followers item (replicate (format.record_length - 1) 0)
