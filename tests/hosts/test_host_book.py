@@ -23,6 +23,8 @@ CANCELS = WAITS.replace("count(*)", "pg_cancel_backend(pid)")
 IDLE = "select count(*) from pg_stat_activity where state = 'idle in transaction'"
 BLOCKED = """select count(*) from pg_stat_activity where wait_event_type = 'Lock'
 and query like '%settle%'"""
+LOCKED = """select count(*) from pg_locks where mode = 'AccessExclusiveLock'
+and relation = 'dukpt.number'::regclass"""
 NO_STANDBY = "no standby is synchronous"
 
 
@@ -90,6 +92,16 @@ class Book(BookCase):
             self.assertEqual(sum(it[f"dukpt_{name}"] for it in found), value, name)
         self.assertGreater(found[0]["dukpt_book_seconds_count"], 0)
 
+    def test_without_uvloop(self) -> None:
+        """A host serves in the loop of Python too, where that of uvloop is not installed."""
+        self.replicate()
+        (self.home / "uvloop.py").write_text("raise ImportError")
+        self.environment["PYTHONPATH"] += f":{self.home}"
+        client = self.connect(self.start_host())
+        given = payments(100)
+        at_once([lambda: client.send_in([stream_of(given)]), client.take_all])
+        self.assertEqual(client.answers, [it.answer for it in given])
+
     def check_one_request_on_all(self, hosts: Sequence[Running]) -> None:
         """Of two requests with one number one is accepted, whatever host each comes to first; the
         same one has one reply everywhere."""
@@ -130,7 +142,7 @@ class Book(BookCase):
 
         def stop() -> None:
             clients[0].take_answers(2)
-            self.assertEqual(host.stop(), 0)
+            self.assertEqual(host.stop(), 0, host.lines)
 
         at_once([stop, *(lambda client=client, work=work: client.send(stream_of(work))
                          for client, work in zip(clients, works))])
@@ -157,6 +169,8 @@ class Book(BookCase):
         client = self.connect(host)
         self.assertEqual(client.ask(given[0].frame), given[0].answer)
         for name, value, usual, text in (("synchronous_commit", "local", "on", "synchronous_commit is local"),
+                                         ("synchronous_commit", "remote_write", "on",
+                                          "synchronous_commit is remote_write"),
                                          ("fsync", "off", "on", "fsync is off"),
                                          ("synchronous_standby_names", "", "standby", NO_STANDBY)):
             self.primary.set(name, value)
@@ -170,6 +184,9 @@ class Book(BookCase):
         tried = self.start_host("--not-replicated", keys=TEST_KEYS)
         self.assertEqual(self.connect(tried).ask(given[0].frame), given[0].answer)
         self.assertEqual(tried.health(), (200, "test keys: serving, not replicated\n"))
+        self.primary.set("synchronous_commit", "off")
+        self.wait_for_health(tried, 503, "test keys: synchronous_commit is off")
+        self.primary.set("synchronous_commit", "on")
         self.assertTrue(tried.lines[0].startswith("dukpt-host: test keys: "))
         alone = self.start_host(places=[self.standby])
         alone.told("nothing is served: no primary: the database is a standby")
@@ -228,8 +245,10 @@ class Book(BookCase):
 
     def test_cancelled_wait(self) -> None:
         """A payment whose wait for the standby was cancelled has no answer; asked again it has none
-        either, as long as the standby does not have it."""
+        either, as long as the standby does not have it. The host hears of it whatever its role is set
+        to."""
         self.replicate()
+        self.primary.sql("alter role host set client_min_messages = error")
         host, given = self.start_host(), payments(4)
         self.standby.signal("walreceiver", signal.SIGSTOP)
         self.cancel_wait(host, given[0])
@@ -253,6 +272,34 @@ class Book(BookCase):
         self.assertEqual(self.connect(host).ask(it.frame), it.answer)
         self.assertEqual(self.standby.sql("select count(*) from dukpt.number"), "1")
         self.standby.signal("walreceiver", signal.SIGCONT)
+
+    def test_no_standby_is_named(self) -> None:
+        """Where no standby is named any more, the server ends its waits without a word. A payment that
+        waited has no answer."""
+        self.replicate()
+        host, given = self.start_host(), payments(4)
+        client = self.connect(host)
+        self.assertEqual(client.ask(given[0].frame), given[0].answer)
+        self.standby.signal("walreceiver", signal.SIGSTOP)
+        client.send(given[1].frame)
+        self.primary.wait_for(WAITS, "1")
+        self.primary.set("synchronous_standby_names", "")
+        self.assertEqual(client.take_all(), given[0].answer)
+        host.told("what came of a group is not known: its commit waited for no standby")
+        self.assertEqual(self.primary.sql("select count(*) from dukpt.number"), "2")
+        self.assertEqual(self.standby.sql("select count(*) from dukpt.number"), "1")
+        self.standby.signal("walreceiver", signal.SIGCONT)
+
+    def test_health_behind_a_lock(self) -> None:
+        """A host whose database settles nothing says so before anybody pays."""
+        host, right = self.start_host("--not-replicated"), "serving, not replicated"
+        self.wait_for_health(host, 200, right)
+        with self.primary.session() as other:
+            other.tell("begin; lock table dukpt.number in access exclusive mode;")
+            self.primary.wait_for(LOCKED, "1")
+            self.assertEqual(host.health(), (503, "the database settles nothing within 2 s\n"))
+            other.tell("rollback;")
+        self.wait_for_health(host, 200, right)
 
     def test_deadlock(self) -> None:
         """A group that the database undoes, so that another transaction goes on, is tried again."""

@@ -149,13 +149,22 @@ class Connections(HostCase):
         given = payments(1)[0]
         slow.socket.setblocking(False)
         until = time.monotonic() + 40
-        while 'dukpt_connections_closed_totalwhy="slow reader"' not in host.metrics():
+        self.assert_from_zero(host)
+        while not host.metrics()['dukpt_connections_closed_totalwhy="slow reader"']:
             self.assertLess(time.monotonic(), until, "it is never closed")
             slow.send(bytes(2) * 100)
             self.assertEqual(other.ask(given.frame), given.answer)
         host.told("closed: it does not read its answers", seconds=5)
         self.assertEqual(other.ask(given.frame), given.answer)
         self.assertEqual(host.stop(), 0)
+
+    def assert_from_zero(self, host: Running) -> None:
+        """Each word is told before it is counted: an alarm on an increase needs the value before."""
+        found = host.metrics()
+        for name in ('restarts_totalwhy="killed"', 'restarts_totalwhy="ended"',
+                     'answers_totalkind="refusal",says="log full"', 'answers_totalkind="reply",says="51"',
+                     'connections_closed_totalwhy="no frame"', 'connections_refused_totalwhy="no TLS"'):
+            self.assertEqual(found[f"dukpt_{name}"], 0, name)
 
     def test_silent_clients(self) -> None:
         """A silent one, and one that does not finish a frame, are closed; one that is asked, not."""

@@ -17,6 +17,7 @@ from typing import NamedTuple, Optional, Sequence
 from ..support.book.cluster import HOST_USER, SCHEMA, USER, Cluster, binaries, folder_for
 from ..support.book.hosts import BookCase, library
 from ..support.case import Case, ProgramCase
+from ..support.commands.everyday import check_value
 from ..support.formats.bank import CARD
 from ..support.program import ROOT
 from ..support.service.client import Exchange, payments
@@ -28,6 +29,8 @@ HAPROXY = ROOT / "share/deploy/haproxy.cfg"
 INSTALLED = "/usr/lib/python3/dist-packages/dukpt_host/book/schema.sql"
 ROLE = "dukpt_host"
 KEYS = {"bdk": "0123456789ABCDEFFEDCBA9876543210", "zone": "3F419E1CB7079442AA37474C2EFBF8B8"}
+# The fields of a base derivation key, as they stand in the document, and those of a zone key.
+FIELDS = ("B0TX00N", "P0TB00N")
 COMPONENT = re.compile(r"([0-9a-fA-F]{48}) ([0-9A-F]{6})\n")
 # Behind a word of /health stands what differs from case to case.
 OPEN_END = re.compile(r" \.\..*| within .*")
@@ -56,21 +59,19 @@ def spans(text: str) -> list[str]:
 
 
 class Keys(ProgramCase):
-    def bash(self, home: Path, commands: str) -> str:
+    def bash(self, home: Path, commands: str, typed: str = "") -> str:
         done = subprocess.run(["bash", "-euc", commands], cwd=home, capture_output=True, text=True,
-                              timeout=SECONDS, check=False,
+                              input=typed, timeout=SECONDS, check=False,
                               env={**os.environ, "PATH": f"{home / 'bin'}:{os.environ['PATH']}"})
         self.assertEqual((done.returncode, done.stderr), (0, ""), commands)
         return done.stdout
 
     def test_components_and_blocks(self) -> None:
-        """Component files, and key blocks under the exclusive or of the components; of all that is in
-        the clear nothing is left."""
+        """Component files, and key blocks under the exclusive or of the components of keys that are typed.
+        No other file is made."""
         home = self.folder()
         (home / "bin").mkdir()
         (home / "bin/dukpt").symlink_to(self.program.path)
-        for name, key in KEYS.items():
-            (home / name).write_text(f"{key}\n")
         component, together = blocks_of(DEPLOYMENT, "Keys")[:2]
         for name in ("lmk.1", "lmk.2"):
             self.assertEqual(self.bash(home, component.replace("lmk.1", name)), "")
@@ -78,15 +79,24 @@ class Keys(ProgramCase):
         self.assertTrue(all(parts), parts)
         for digits, value in (it.groups() for it in parts):
             self.assertIn(f"kcv {value}\n".encode(), self.program.run("kcv", digits).output)
+            self.assertTrue(all(it.bit_count() % 2 for it in bytes.fromhex(digits)), digits)
         self.assertEqual((home / "lmk.1").stat().st_mode & 0o777, 0o600)
-        made = self.bash(home, together).split()
         lmk = f"{int(parts[0][1], 16) ^ int(parts[1][1], 16):048X}"
-        self.assertEqual(len(made), 2)
-        for block, fields, key in zip(made, ("B0TX00N", "P0TB00N"), KEYS.values()):
-            self.assertEqual(block[5:12], fields)
-            self.assertIn(key.encode(), self.program.run("unwrap", lmk, block).output)
+        checked = "".join(f"component {at} {it[2]}\n" for at, it in enumerate(parts, 1))
+        checked += f"lmk {check_value(bytes.fromhex(lmk))}\n"
+        self.assertIn(FIELDS[0], together)
+        made = [self.block_of(home, lmk, checked, together.replace(FIELDS[0], fields), fields, key)
+                for fields, key in zip(FIELDS, KEYS.values())]
         self.assertEqual(sorted(it.name for it in home.iterdir()), ["bin", "lmk.1", "lmk.2"])
         self.check_host(home, *made)
+
+    def block_of(self, home: Path, lmk: str, checked: str, command: str, fields: str, key: str) -> str:
+        """The key block that commands make of a key that is typed, behind check values, its own first."""
+        told, block = self.bash(home, command, f"{key}\n").split("block ")
+        self.assertEqual(told, self.program.run("kcv", key).output.decode() + checked)
+        self.assertEqual(block[5:12], fields)
+        self.assertIn(key.encode(), self.program.run("unwrap", lmk, block.strip()).output)
+        return block.strip()
 
     def check_host(self, home: Path, bdk: str, zone: str) -> None:
         """A host serves with these key blocks and components."""

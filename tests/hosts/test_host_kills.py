@@ -25,7 +25,7 @@ CLIENTS = 10
 AHEAD = 12
 KILLS = 6
 # From a kill to the first answer, over the journals of these tests, also where the machine has much else
-# to do; `bench/host` measures it.
+# to do; `bench/load` measures it.
 SOON = 10.0
 
 

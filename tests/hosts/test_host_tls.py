@@ -66,7 +66,8 @@ class Tls(HostCase):
         for words, why in ((("--listen", anywhere), "other machines reach 0.0.0.0:"),
                            (("--listen", HERE, "--listen", anywhere), "other machines reach"),
                            (("--listen", HERE, "--tls", "host.pem", "wrong.key", "ours.pem"), "TLS: "),
-                           (("--listen", HERE, "--tls", "host.pem", "host.key", "none.pem"), "TLS: ")):
+                           (("--listen", HERE, "--tls", "host.pem", "host.key", "none.pem"),
+                            "TLS: [Errno 2] No such file or directory: 'none.pem'")):
             done = self.run_host(*words)
             self.assertEqual(done.returncode, 1, words)
             self.assertIn(f"dukpt-host: not started: {why}", done.stderr)

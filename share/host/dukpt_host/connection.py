@@ -4,7 +4,7 @@ from __future__ import annotations
 import asyncio
 import ssl
 from time import monotonic
-from typing import Optional, Protocol, Sequence
+from typing import Optional, Protocol, Sequence, cast
 
 from .frames import Cutter
 from .waiting import Source, Waiting
@@ -45,8 +45,8 @@ class Connection(asyncio.Protocol, Source):
     # From the client
 
     def connection_made(self, transport: asyncio.BaseTransport) -> None:
-        assert isinstance(transport, asyncio.Transport)
-        self.transport, self.is_made = transport, True
+        # The loop of uvloop has transports of its own.
+        self.transport, self.is_made = cast(asyncio.Transport, transport), True
         self.keeper.opened(self)
 
     def data_received(self, data: bytes) -> None:

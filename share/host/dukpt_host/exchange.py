@@ -95,17 +95,25 @@ class Exchange:
         now, first = monotonic(), 0
         for part in group:
             last = first + len(part.frames)
-            mine, first = answers[first:last], last
-            if isinstance(part.source, Connection):
-                self.count(part.source, mine, now - part.came)
-            part.source.answered(mine)
+            part.source.answered(answers[first:last])
+            first = last
+        self.count(group, answers, now)
 
-    def count(self, source: Connection, answers: Sequence[bytes], seconds: float) -> None:
-        self.metrics.answers.update(map(says, answers))
-        self.metrics.seconds.add(seconds, len(answers))
-        for it in answers:
-            if it[KIND] == REFUSAL:
-                self.log.refused(source.peer, it)
+    def count(self, group: Sequence[Part], answers: Sequence[bytes], now: float) -> None:
+        """Counts what connections were answered. It is done for all of a group at once, and behind
+        the answers."""
+        first, counted = 0, list[bytes]()
+        for part in group:
+            last = first + len(part.frames)
+            if isinstance(part.source, Connection):
+                mine = answers[first:last]
+                counted += mine
+                self.metrics.seconds.add(now - part.came, len(mine))
+                for it in mine:
+                    if it[KIND] == REFUSAL:
+                        self.log.refused(part.source.peer, it)
+            first = last
+        self.metrics.answers.update(map(says, counted))
 
     def lose_group(self, decider: Decider) -> None:
         """The frames of the group get no answer: their connections end."""

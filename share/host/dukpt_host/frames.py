@@ -12,6 +12,10 @@ REPLY, REFUSAL, REVERSED = 2, 3, 5
 MALFORMED = bytes([REFUSAL, *bytes(10), 1])
 REASONS = {1: "malformed", 2: "unknown key set", 3: "bad counter", 4: "bad MAC", 5: "used",
            6: "log full"}
+CODES = (b"00", b"14", b"30", b"51", b"55")
+# What answers say, each as `says` has it.
+SAID = (*(bytes([REPLY]) + it for it in CODES), bytes([REVERSED, 0]), bytes([REVERSED, 1]),
+        *(bytes([REFUSAL, it]) for it in REASONS))
 
 
 class Cutter:

@@ -71,6 +71,10 @@ def context_of(tls: Optional[Tls]) -> Optional[ssl.SSLContext]:
     context.minimum_version = ssl.TLSVersion.TLSv1_2
     context.verify_mode = ssl.CERT_REQUIRED
     try:
+        for it in (tls.authorities, tls.certificate, tls.key):
+            # Only this fault names the file.
+            with open(it, "rb"):
+                pass
         context.load_verify_locations(tls.authorities)
         context.load_cert_chain(tls.certificate, tls.key, no_password)
     except (OSError, ValueError) as why:

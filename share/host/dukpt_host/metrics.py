@@ -3,17 +3,24 @@ from __future__ import annotations
 
 from bisect import bisect_left
 from collections import Counter
-from typing import Callable, Iterable, Iterator, Mapping, Sequence
+from typing import Callable, Iterable, Iterator, Mapping, Sequence, TypeVar
 
 from prometheus_client import CollectorRegistry, generate_latest
 from prometheus_client.core import CounterMetricFamily, GaugeMetricFamily, HistogramMetricFamily
 from prometheus_client.metrics_core import Metric
 from prometheus_client.registry import Collector
 
-from .frames import words
+from .frames import SAID, words
 
 SECONDS = (.0005, .001, .002, .005, .01, .02, .05, .1, .2, .5, 1, 2, 5, 10)
 FRAMES = (1, 2, 5, 10, 20, 50, 100, 200, 500, 1024)
+# Why connections end, and why clients are not let in.
+CLOSED = ("client", "no frame", "cut frame", "unfinished frame", "slow reader", "idle", "restart",
+          "unknown", "not serving")
+REFUSED = ("too many", "not serving", "no TLS", "gone")
+
+
+T = TypeVar("T")
 
 
 class Histogram:
@@ -44,13 +51,12 @@ class Metrics(Collector):
     def __init__(self) -> None:
         # What the service counts of itself.
         self.of_service: Callable[[], Iterable[Metric]] = lambda: ()
-        self.answers: Counter[bytes] = Counter()
+        self.answers = from_zero(SAID)
         self.frames = self.unanswered = self.dropped = self.opened = 0
         self.connections: Callable[[], int] = lambda: 0
         self.waiting: Callable[[], int] = lambda: 0
         self.is_serving = False
-        self.closed: Counter[str] = Counter()
-        self.refused: Counter[str] = Counter()
+        self.closed, self.refused = from_zero(CLOSED), from_zero(REFUSED)
         self.seconds, self.groups = Histogram(SECONDS), Histogram(FRAMES)
         self.registry = CollectorRegistry()
         self.registry.register(self)
@@ -84,6 +90,11 @@ class Metrics(Collector):
         yield "dukpt_serving", "1 while the service answers.", int(self.is_serving)
         yield "dukpt_connections", "Connections now.", self.connections()
         yield "dukpt_frames_waiting", "Frames without an answer now.", self.waiting()
+
+
+def from_zero(words_of: Iterable[T]) -> Counter[T]:
+    """A count of each, from 0: Prometheus sees no increase where a count begins at 1."""
+    return Counter(dict.fromkeys(words_of, 0))
 
 
 def by_word(name: str, text: str, counts: Mapping[str, int]) -> Metric:

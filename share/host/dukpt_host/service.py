@@ -2,7 +2,6 @@
 from __future__ import annotations
 
 import asyncio
-from collections import Counter
 from time import monotonic
 from typing import Iterator, Union
 
@@ -15,7 +14,7 @@ from .exchange import Exchange
 from .frames import PROBE
 from .journal import Held, Refused, State, put_copy, room_of
 from .log import Log
-from .metrics import Metrics, by_word
+from .metrics import Metrics, by_word, from_zero
 from .serving import NotStarted
 from .settings import Journal
 
@@ -39,7 +38,7 @@ class Service:
         self.state = State(self.journal)
         self.wrong = STARTS
         self.has_failed = False
-        self.restarts: Counter[str] = Counter()
+        self.restarts = from_zero(("killed", "ended"))
         # Set once it is known how the first start went; and when this is to stop.
         self.settled, self.stopping = asyncio.Event(), asyncio.Event()
 

@@ -16,13 +16,14 @@ MOST_OF_ONE = 1 << 16
 MOST = 1 << 22
 
 
-@dataclass
+@dataclass(slots=True)
 class Part:
-    """Frames of one source, which came at one moment."""
+    """Frames of one source, which came at one moment, and how many bytes they have."""
 
     source: Source
     frames: list[bytes]
     came: float
+    size: int
 
 
 class Source:
@@ -68,8 +69,8 @@ class Waiting:
         """Has frames wait, behind those of the same source."""
         if not source.parts and not source.is_under_way:
             self.turns.append(source)
-        source.parts.append(Part(source, frames, came))
         size = sum(map(len, frames))
+        source.parts.append(Part(source, frames, came, size))
         source.size += size
         self.size += size
         self.frames += len(frames)
@@ -111,15 +112,16 @@ class Waiting:
         if len(first.frames) <= most:
             part = source.parts.popleft()
         else:
-            part = Part(source, first.frames[:most], first.came)
+            frames = first.frames[:most]
+            part = Part(source, frames, first.came, sum(map(len, frames)))
             first.frames = first.frames[most:]
+            first.size -= part.size
         self.count_out(part)
         return part
 
     def count_out(self, part: Part) -> None:
-        size = sum(map(len, part.frames))
-        part.source.size -= size
-        self.size -= size
+        part.source.size -= part.size
+        self.size -= part.size
         self.frames -= len(part.frames)
 
     def let_read(self) -> None:

@@ -22,7 +22,6 @@ from ..program import ROOT
 from .groups import COUNTER_BITS, World, number_of, worlds
 
 sys.path.insert(0, str(ROOT / "share/host"))
-from dukpt import Payment, Reversal, Settled, Settlement  # noqa: E402
 from dukpt_host.book import settling  # noqa: E402
 from dukpt_host.book.opening import SESSION  # noqa: E402
 
@@ -35,16 +34,26 @@ class Differs(Exception):
     """Where statement and model differ."""
 
 
-def candidate(it: Asked) -> settling.Candidate:
+def judged(it: Asked) -> bytes:
+    """In the form of the library's `dukpt_host_judge`: docs/LIBRARY.md."""
     if it.reversed is None:
-        return Payment(it.number, it.amount, b"%02d" % it.code, it.mac)
-    return Reversal(it.number, it.reversed, it.mac)
+        found = b"\1\0" + it.number + it.amount.to_bytes(4, "big") + b"%02d" % it.code + it.mac
+    else:
+        found = b"\2\0" + it.number + it.reversed + it.mac
+    return found.ljust(64, b"\0")
 
 
-def said(it: Settled) -> Optional[int]:
-    if it.settlement is Settlement.USED:
+def said(given: Asked, settled: bytes) -> Optional[int]:
+    """What is said of one, in the form of `dukpt_host_answer`, where all else stays as it was judged."""
+    place, used, known_again = judged(given), 3, 2
+    if settled == place[:1] + bytes([used]) + place[2:]:
         return None
-    return int(it.candidate.code) if isinstance(it.candidate, Payment) else it.state
+    code = slice(16, 18) if given.reversed is None else slice(30, 31)
+    wanted = bytearray(place)
+    wanted[1], wanted[code] = known_again, settled[code]
+    if settled != wanted:
+        raise Differs(f"settled: {place.hex()} as {settled.hex()}")
+    return settled[30] if given.reversed else int(settled[code])
 
 
 async def compare_kept(connection: Any, world: World, book: Book) -> None:
@@ -67,8 +76,8 @@ def compare_group(group: Sequence[Asked], found: Sequence[Optional[int]], book: 
 async def one_by_one(connection: Any, world: World) -> None:
     book = Book()
     for group in world.groups:
-        found = await settling.settle(connection, list(map(candidate, group)), False)
-        compare_group(group, list(map(said, found)), book)
+        found = await settling.settle(connection, list(map(judged, group)), False)
+        compare_group(group, list(map(said, group, found)), book)
     await compare_kept(connection, world, book)
 
 
@@ -78,7 +87,7 @@ async def at_once(connections: Sequence[Any], world: World) -> None:
     async def lane(connection: Any) -> None:
         while left:
             group = left.popleft()
-            columns = settling.columns_of(list(map(candidate, group)))
+            columns = settling.columns_of(list(map(judged, group)))
             found, when = await connection.fetchrow(IN_ORDER, *columns)
             done.append((when, group, found))
 

@@ -9,9 +9,11 @@ from ..models.model_book import Asked
 
 CODES = (0, 0, 0, 51, 14, 30, 55)
 MACS = (b"one  MAC", b"other it")
-# A terminal has so many counters in a world; a world so many terminals and groups, a group so many frames.
-COUNTERS, TERMINALS, GROUPS, FRAMES = 7, 2, 8, 12
+# A world has so many terminals and groups, a group so many frames.
+TERMINALS, GROUPS, FRAMES = 2, 8, 12
 COUNTER_BITS = 21
+# The counters of each terminal, up to the highest bits.
+COUNTERS = (1, 2, 3, 1 << 15, 1 << 16, 3 << 18, 1 << 20)
 
 
 @dataclass(frozen=True)
@@ -50,7 +52,7 @@ def group_of(chance: random.Random, terminals: Sequence[int]) -> list[Asked]:
 
 
 def asked(chance: random.Random, terminal: int) -> Asked:
-    own, other = (number_of(terminal, it) for it in chance.sample(range(1, COUNTERS + 1), 2))
+    own, other = (number_of(terminal, it) for it in chance.sample(COUNTERS, 2))
     mac = MACS[chance.random() < 0.15]
     if chance.random() < 0.6:
         return Asked(own, mac, chance.randrange(1 << 32), chance.choice(CODES))

@@ -1,7 +1,6 @@
 """Hosts over a database of the test's own: a primary, and a standby that follows it."""
 from __future__ import annotations
 
-import os
 import ssl
 import time
 from pathlib import Path
@@ -26,8 +25,7 @@ from dukpt.number where kind > 0"""
 
 def library() -> dict[str, str]:
     """By which variables a host finds the package `dukpt` and its library."""
-    named = os.environ.get(VARIABLE) or str(built_library() / SHARED)
-    return {"PYTHONPATH": str(PACKAGE), VARIABLE: named}
+    return {"PYTHONPATH": str(PACKAGE), VARIABLE: str(built_library() / SHARED)}
 
 
 class BookCase(Case):

@@ -22,7 +22,9 @@ LOCKS = Plant("terminals that are there are not taken",
               "on conflict (iksn) do nothing", LANES)
 SCANS = Plant("plans read the whole table", """set enable_seqscan = off set enable_hashjoin = off
 set enable_mergejoin = off""", "")
+FUNCTIONS = ("terminal_of", "settle")
 PLANTS = (
+    Plant("a terminal has some bits of its counter", "get_byte(ksn, 7) & 224", "get_byte(ksn, 7) & 240"),
     Plant("of equal numbers the last is kept", """place)
         order by ksn, place) as first
     where kind = 1""", """place)
@@ -52,11 +54,15 @@ PLANTS = (
 
 
 def with_plant(plant: Optional[Plant] = None) -> str:
-    """The statement that puts the function in the place of the one that is there, with a difference."""
-    schema = SCHEMA.read_text(encoding="utf-8")
-    start = schema.index("create function dukpt.settle")
-    made = schema[start : schema.index("$$;\n", start) + 4].replace("create", "create or replace", 1)
+    """The statements that put the functions in the place of those that are there, with a difference."""
+    made = "".join(map(function_of_schema, FUNCTIONS))
     if plant:
         assert made.count(plant.old) == 1, plant.name
         made = made.replace(plant.old, plant.new)
     return made
+
+
+def function_of_schema(name: str) -> str:
+    schema = SCHEMA.read_text(encoding="utf-8")
+    start = schema.index(f"create function dukpt.{name}(")
+    return schema[start : schema.index("$$;\n", start) + 4].replace("create", "create or replace", 1)

@@ -5,10 +5,10 @@ from typing import Any, Final, Mapping
 
 BOOK: Final = "The book of payments and reversals, form 1"
 OLDEST: Final = 140000
-# The values of synchronous_commit with which a commit waits for the standby; and with which it
-# waits for the disk of the primary at least.
-REPLICATED: Final = ("on", "remote_apply", "remote_write")
-KEPT: Final = (*REPLICATED, "local")
+# The values of synchronous_commit with which a commit waits for the disk of the standby; and with
+# which it waits for the disk of the primary at least.
+REPLICATED: Final = ("on", "remote_apply")
+KEPT: Final = (*REPLICATED, "remote_write", "local")
 STANDBY: Final = "the database is a standby"
 
 QUESTION: Final = """

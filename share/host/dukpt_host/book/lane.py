@@ -3,23 +3,21 @@ from __future__ import annotations
 
 import asyncio
 from time import monotonic
-from typing import Any, Callable, Optional, Sequence, TypeVar
+from typing import Any, Callable, Optional, Sequence
 
-from dukpt import Module, Refused, Settled
+from dukpt import Module
 
 from ..deciding import Ended
 from ..log import Log
 from .counts import Counts
 from .opening import told
-from .settling import Candidate, settle
+from .places import PLACE, REFUSED, frame_in, parted, places_of
+from .settling import settle
 
 # Seconds that a group may take. A standby that is gone for longer is seen by the watch before.
 PATIENCE = 10.0
 # Above so many frames keys are used in a thread, beside which other groups go on.
 AT_ONCE = 128
-
-Given = TypeVar("Given")
-Made = TypeVar("Made")
 
 
 class Doubtful(Exception):
@@ -53,14 +51,15 @@ class Lane:
             raise Ended from None
 
     async def decide(self, frames: Sequence[bytes]) -> list[bytes]:
-        """The answers to frames."""
-        judged = await apart(self.module.judge, frames)
-        group = [it for it in judged if not isinstance(it, Refused)]
-        settled = await self.settle(group) if group else []
-        answers = iter(await apart(self.module.answer, settled))
-        return [it.frame if isinstance(it, Refused) else next(answers) for it in judged]
+        """The answers to frames. Refusals alone are a group of none, which is settled too: so an
+        answer always says that the database settles."""
+        judged = parted(await apart(self.module.judge_places, places_of(frames)))
+        group = [it for it in judged if it[0] != REFUSED]
+        settled = await self.settle(group)
+        answers = iter(parted(await apart(self.module.answer_places, b"".join(settled))))
+        return [frame_in(it if it[0] == REFUSED else next(answers)) for it in judged]
 
-    async def settle(self, group: Sequence[Candidate]) -> list[Settled]:
+    async def settle(self, group: Sequence[bytes]) -> list[bytes]:
         """Settles a group in time. Nothing is cancelled: to cancel the wait for the standby would
         let others see what it does not have yet."""
         self.has_warned = False
@@ -89,7 +88,7 @@ class Lane:
         self.connection.terminate()
 
 
-async def apart(step: Callable[[Sequence[Given]], list[Made]],
-                given: Sequence[Given]) -> list[Made]:
+async def apart(step: Callable[[bytes], bytes], places: bytes) -> bytes:
     """What a step of the module makes, in a thread where that takes long."""
-    return await asyncio.to_thread(step, given) if len(given) > AT_ONCE else step(given)
+    is_long = len(places) > AT_ONCE * PLACE
+    return await asyncio.to_thread(step, places) if is_long else step(places)

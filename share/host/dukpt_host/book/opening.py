@@ -7,12 +7,14 @@ from typing import Any, Final, Sequence
 import asyncpg  # type: ignore[import]
 
 from .demands import QUESTION, STANDBY, fault_of
-from .settling import SETTLE
+from .settling import SETTLE, columns_of
 
 # What a connection of a host is set to, whatever its role or database is. Each statement of a group
-# is to see what was committed before it; the function of the book is not worth compiling; and a
-# group that still waits for a terminal ends with its host.
+# is to see what was committed before it; the function of the book is not worth compiling; that a
+# wait for the standby was cancelled is a warning; and a group that still waits for a terminal ends
+# with its host.
 SESSION: Final = {"application_name": "dukpt-host", "jit": "off",
+                  "client_min_messages": "warning",
                   "default_transaction_isolation": "read committed",
                   "client_connection_check_interval": "2s"}
 # Seconds for a connection to be made, and for a question to be answered.
@@ -55,7 +57,7 @@ async def open_place(dsn: str, is_replicated: bool) -> Any:
     try:
         await standbys(connection, is_replicated)
         # A group of none: the function is there, is granted, and is planned by then.
-        await connection.fetchval(SETTLE, *[[]] * 6, timeout=MAKING)
+        await connection.fetchval(SETTLE, *columns_of([]), timeout=MAKING)
     except FAULTS as why:
         connection.terminate()
         raise NotServed(f"the book cannot be used: {told(why)}") from None
