@@ -12,7 +12,7 @@ from ..support.program import ROOT, SECONDS
 
 READ = ("tools/wrong-bodies", "tools/library_of/__init__.py", "tools/library_of/kit.py")
 # The kit's command, which notes its checks, and its prover: it refuses each function with `bad` in it,
-# and, while it proves, edits a file that it is given.
+# and all where a definition has that; and, while it proves, it edits a file that it is given.
 RT = """#!/bin/sh
 case $1 in
 version) cat "$KIT/version" ;;
@@ -30,7 +30,8 @@ if os.environ["EDITED"]:
         edited.write("\\n")
 with open("src/lib.rt") as source:
     bodies = re.findall(r"^fn (\\w+)\\(\\) {{\\n(.*)\\n}}$", source.read(), re.M)
-wrong = [name for name, body in bodies if "bad" in body]
+false = os.path.exists("specs/Law.antt") and "bad" in open("specs/Law.antt").read()
+wrong = [name for name, body in bodies if false or "bad" in body]
 for name, _ in bodies:
     print("fn " + crate + "::" + name + ": " + ("not proved" if name in wrong else "proved"))
 print("logic=not-proved" if wrong else "logic=proved")
@@ -109,6 +110,17 @@ class WrongBodies(Case):
                    ["high/lib: first.wrong_1: refused, as before", NOT_REFUSED,
                     "1 refused, 1 of them as before, 1 not refused"],
                    ["rt check high", *PROVER * 2])
+
+    def test_one_of_a_law(self) -> None:
+        """It changes a definition, and stands alone: the next one is judged over the definition as it was."""
+        (self.home / "crates" / "high" / "specs").mkdir()
+        (self.home / "crates" / "high" / "specs" / "Law.antt").write_text("Law = good\n")
+        law = "second.law_is_false\nrefuses: high::second\nfile: specs/Law.antt\nold: good\nnew: bad\n"
+        self.write_edits("high", law, OTHER)
+        self.check(self.judge(), 1,
+                   [NOT_REFUSED, "high/lib: second.law_is_false: refused",
+                    "1 refused, 0 of them as before, 1 not refused"],
+                   ["rt check high", *PROVER * 3])
 
     def test_what_changed_is_judged_again(self) -> None:
         self.check_judged("at first")
