@@ -15,7 +15,7 @@ from ..support.page.stage_pictures import EXAMPLES, PICTURES
 from ..support.program import ROOT, SECONDS
 
 TOOL, PARTS, FOLDER = "tools/pictures", "tools/pictures_of", "docs/pictures"
-LIST, DOCUMENT = "crates.txt", "docs/ARCHITECTURE.md"
+LIST, DOCUMENT, MEASURED = "crates.txt", "docs/ARCHITECTURE.md", "docs/latency.tsv"
 # A picture that a document shows: what it says in words, and its file.
 SHOWN = re.compile(r"!\[([^\[\]]*)\]\((?:docs/)?pictures/(\w+\.svg)\)")
 # What a file that stands alone does not have: an address.
@@ -30,7 +30,7 @@ class Pictures(Case):
         self.copy = self.folder()
         for name in (PARTS, FOLDER):
             shutil.copytree(ROOT / name, self.copy / name, ignore=shutil.ignore_patterns("__pycache__"))
-        for name in (TOOL, LIST, DOCUMENT):
+        for name in (TOOL, LIST, DOCUMENT, MEASURED):
             shutil.copy2(ROOT / name, self.copy / name)
 
     def run_tool(self, *words: str) -> tuple[int, list[str]]:

@@ -45,6 +45,7 @@ FILES = {
 644 usr/share/doc/dukpt/docs/pictures/hosts.svg docs/pictures/hosts.svg
 644 usr/share/doc/dukpt/docs/pictures/journal.svg docs/pictures/journal.svg
 644 usr/share/doc/dukpt/docs/pictures/keys.svg docs/pictures/keys.svg
+644 usr/share/doc/dukpt/docs/pictures/latency.svg docs/pictures/latency.svg
 644 usr/share/doc/dukpt/docs/pictures/lost_reply.svg docs/pictures/lost_reply.svg
 644 usr/share/doc/dukpt/docs/pictures/power_failure.svg docs/pictures/power_failure.svg
 644 usr/share/doc/dukpt/docs/pictures/reversal.svg docs/pictures/reversal.svg

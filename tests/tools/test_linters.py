@@ -33,8 +33,8 @@ C_WORDS = ("--analyze", "-Xclang", "-analyzer-output=text", "-Xclang",
            "-o", "/dev/null")
 # It is for WebAssembly alone; tests/data/arena has it in a program.
 NOT_ALONE = "tools/page_of/arena.c"
-# What a test compares byte by byte.
-BYTES = ("tests/data/commands/", "tests/data/vectors/")
+# What a test compares byte by byte, and a table with tabs between its columns.
+BYTES = ("tests/data/commands/", "tests/data/vectors/", "docs/latency.tsv")
 
 
 def run(command: str, *words: object, folder: Path = ROOT) -> list[str]:

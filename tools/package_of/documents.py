@@ -20,7 +20,8 @@ OF_LIBRARY = ("docs/DEFINITIONS.md", "docs/FORMATS.md", "docs/LIBRARY.md", "docs
 # What these documents show, and the page with its picture.
 PAGE = "page/dukpt.html"
 SHOWN = ("docs/page.png", "docs/pictures/hosts.svg", "docs/pictures/journal.svg", "docs/pictures/keys.svg",
-         "docs/pictures/lost_reply.svg", "docs/pictures/power_failure.svg", "docs/pictures/reversal.svg", PAGE)
+         "docs/pictures/latency.svg", "docs/pictures/lost_reply.svg", "docs/pictures/power_failure.svg",
+         "docs/pictures/reversal.svg", PAGE)
 
 
 def documents(sources: Sources, package: str, names: Sequence[str],

@@ -5,20 +5,21 @@ import argparse
 import sys
 from pathlib import Path
 
-from . import architecture, hosts, journal, keys
+from . import architecture, hosts, journal, keys, latency
 from .crates import Unreadable, read_crates
 from .drawing import DoesNotFit
 
 ROOT = Path(__file__).resolve().parent.parent.parent
-FOLDER = "docs/pictures"
+FOLDER, MEASURED = "docs/pictures", "docs/latency.tsv"
 ABOUT = """Makes docs/pictures/*.svg: the worked examples of the page's stage, as page/dukpt.html draws and saves
-them, each at its end; and pictures of crates, keys, a journal and a host, which need no browser."""
+them, each at its end; and pictures of crates, keys, a journal, a host and its times, which need no browser."""
 
 
 def of_texts(root: Path) -> dict[str, str]:
     """The pictures that need no browser, by the names of their files."""
     return {"architecture.svg": architecture.drawn(read_crates(root)), "hosts.svg": hosts.drawn(),
-            "journal.svg": journal.drawn(), "keys.svg": keys.drawn()}
+            "journal.svg": journal.drawn(), "keys.svg": keys.drawn(),
+            "latency.svg": latency.drawn((root / MEASURED).read_text(encoding="ascii"))}
 
 
 def of_page() -> dict[str, str]:

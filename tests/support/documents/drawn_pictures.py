@@ -8,7 +8,7 @@ from typing import Mapping, Sequence
 
 from ..page.browser import Browser, page_address
 
-DRAWN = ("architecture.svg", "hosts.svg", "journal.svg", "keys.svg")
+DRAWN = ("architecture.svg", "hosts.svg", "journal.svg", "keys.svg", "latency.svg")
 SVG = "{http://www.w3.org/2000/svg}"
 # What leaves its box or the sheet, or lies on another text. The place of a text has room above and below its
 # letters, so that lines may share four pixels.
