@@ -1,5 +1,5 @@
 -- Whatever happened, what was judged may be settled, and what was settled may be answered.
-use Rattle.std.proofs.Common.{◌≡◌, ◌≢◌, ◌⊎◌, ℕ, zero, suc, List, [], ◌∷◌, ◌++◌, Contains, inl, inr, refl, sym, ap, subst, ◌∙◌, append_assoc, arith}
+use Rattle.std.proofs.Common.{◌≡◌, ◌≢◌, ◌⊎◌, ℕ, zero, suc, List, [], ◌∷◌, ◌++◌, Contains, inl, inr, map, refl, sym, ap, subst, ◌∙◌, append_assoc, arith}
 use Rattle.std.proofs.lemmas.List.{append-nil}
 use Rattle.duk_frame.specs.declared.code.Code.{Code}
 use Rattle.duk_frame.specs.declared.code.Code.TheVariants.{Approved, NoCard, OverLimit, Unreadable, WrongPin}
@@ -13,8 +13,9 @@ use Rattle.duk_reversal.specs.declared.state.ReversalState.{ReversalState}
 use Rattle.duk_reversal.specs.declared.state.ReversalState.TheVariants.{NoneStands, Undone}
 use Rattle.duk_store.specs.Log.{Numbers}
 use Rattle.duk_tree.specs.Serial.{Serial}
+use Rattle.duk_journal_host.specs.Candidate.{IsCandidate}
 use Rattle.duk_journal_host.specs.Judgement.{FindsState, reversal_entry, room_for_payments}
-use Rattle.duk_journal_host.specs.Steps.{IsAnswerOf, IsSettlement, IsUnknown}
+use Rattle.duk_journal_host.specs.Steps.{IsAnswerOf, IsDismissed, IsSettlement, IsUnknown, added_by}
 use Rattle.duk_journal_host.specs.declared.authentic.Purchase.{Purchase}
 use Rattle.duk_journal_host.specs.declared.settlement.Settled.{Settled}
 use Rattle.duk_journal_host.specs.declared.settlement.Settled.TheVariants as settled
@@ -23,8 +24,8 @@ use Rattle.duk_journal_host.specs.declared.settlement.Settlement.TheVariants.{Fu
 use Rattle.duk_journal_host.specs.declared.candidate.Candidate.{Candidate}
 use Rattle.duk_journal_host.specs.declared.candidate.Candidate.TheVariants as sent
 use Rattle.duk_hosts.specs.Book.{Book, Bound, IsSettledIn, KnowsPurchase, KnowsReversal, answerable, capacity_of, room_of}
-use Rattle.duk_hosts.specs.Events.{Answers, Event, Hosts, IsHistory, IsHistoryFrom, Judged, Judges, MayHappen, Outcome, Settles, all_outcomes, kept_after}
-use Rattle.duk_hosts.proofs.Members.{first_in, front_or, later_in, none_in, the_only}
+use Rattle.duk_hosts.specs.Events.{Answers, AreSettledIn, Ask, Event, Hosts, IsHistory, IsHistoryFrom, Judged, Judges, MayHappen, Outcome, Refuses, Settles, all_outcomes, kept_after}
+use Rattle.duk_hosts.proofs.Members.{first_in, front_or, later_in, map_in, none_in}
 
 -- ---- one thing or another
 
@@ -217,18 +218,36 @@ one_more hosts book before [] event history may = (subst (λ events. MayHappen h
 one_more hosts book before (first ∷ events) event history may =
     (history.0, one_more hosts book (before ++ first ∷ []) events event history.1 (subst (λ events. MayHappen hosts book events event) (sym (append_assoc before (first ∷ []) events)) may))
 
--- a judged candidate, settled so
-abbrev alone : Judged → Settled → Outcome
-alone judged done = record { judged = judged; settled = done }
+-- any frame may be judged, and any may be refused
+pub refused_now : (hosts : Hosts) (book : Book) (events : List Event) (ask : Ask) (answer : List ℕ) → IsHistory hosts book events → IsDismissed hosts.keys ask.frame answer → IsHistory hosts book (events ++ Refuses ask answer ∷ [])
+refused_now hosts book events ask answer history is = one_more hosts book [] events (Refuses ask answer) history is
 
-pub settled_now : (hosts : Hosts) (book : Book) (events : List Event) (judged : Judged) → IsHistory hosts book events → Contains events (Judges judged)
-    → (done : Settled) × IsHistory hosts book (events ++ Settles (record { judged = judged; settled = done } ∷ []) ∷ [])
-settled_now hosts book events judged history was =
-    let done = settled_somehow book.bound (kept_after book events) judged.candidate in
-    let outcome = alone judged done.0 in (
-      done.0,
-      one_more hosts book [] events (Settles (outcome ∷ [])) history
-          (λ other is_in. subst (λ (outcome : Outcome). Contains events (Judges outcome.judged)) (sym (the_only outcome other is_in)) was, (done.1, tt)),
+pub judged_now : (hosts : Hosts) (book : Book) (events : List Event) (judged : Judged) → IsHistory hosts book events → IsCandidate hosts.keys (hosts.decides judged.ask.host) judged.ask.frame judged.candidate
+    → IsHistory hosts book (events ++ Judges judged ∷ [])
+judged_now hosts book events judged history is = one_more hosts book [] events (Judges judged) history is
+
+-- judged candidates are settled in turn, somehow
+abbrev with_settled : Judged → Settled → Outcome
+with_settled judged done = record { judged = judged; settled = done }
+
+all_somehow : (bound : Bound) (entries : Entries) (group : List Judged) → (outcomes : List Outcome) × (map (λ (outcome : Outcome). outcome.judged) outcomes ≡ group) × AreSettledIn bound entries outcomes
+all_somehow bound entries [] = ([], refl, tt)
+all_somehow bound entries (judged ∷ group) =
+    let done = settled_somehow bound entries judged.candidate in
+    let others = all_somehow bound (entries ++ added_by done.0) group in
+    (with_settled judged done.0 ∷ others.0, ap (λ (rest : List Judged). judged ∷ rest) others.1, (done.1, others.2))
+
+pub settled_now : (hosts : Hosts) (book : Book) (events : List Event) (group : List Judged) → IsHistory hosts book events → ((judged : Judged) → Contains group judged → Contains events (Judges judged))
+    → (outcomes : List Outcome) × (map (λ (outcome : Outcome). outcome.judged) outcomes ≡ group) × IsHistory hosts book (events ++ Settles outcomes ∷ [])
+settled_now hosts book events group history were =
+    let all = all_somehow book.bound (kept_after book events) group in (
+      all.0,
+      all.1,
+      one_more hosts book [] events (Settles all.0) history
+          (
+            λ outcome is_in. were outcome.judged (subst (λ (group : List Judged). Contains group outcome.judged) all.1 (map_in (λ (it : Outcome). it.judged) all.0 outcome is_in)),
+            all.2,
+          ),
     )
 
 pub answered_now : (hosts : Hosts) (book : Book) (events : List Event) (outcome : Outcome) (answer : List ℕ) → IsHistory hosts book events → Contains (all_outcomes events) outcome → IsAnswerOf hosts.keys outcome.settled answer

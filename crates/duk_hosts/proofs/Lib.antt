@@ -1,4 +1,5 @@
 pub mod Members
+pub mod Kept
 pub mod Settling
 pub mod Turns
 pub mod Histories

@@ -1,5 +1,5 @@
 -- A book that many hosts share, and how it settles what they send: this project's own.
-use Rattle.std.specs.Prelude.{◌-◌, ℕ, Contains, length}
+use Rattle.std.specs.Prelude.{◌-◌, ◌++◌, ℕ, List, [], ◌∷◌, Contains, length}
 use Rattle.duk_frame.specs.declared.code.Code.{Code}
 use Rattle.duk_journal.specs.Groups.{Entries}
 use Rattle.duk_journal.specs.Standing.{payment_entry, reversed_numbers}
@@ -8,7 +8,7 @@ use Rattle.duk_reversal.specs.declared.state.ReversalState.{ReversalState}
 use Rattle.duk_journal_host.specs.Candidate.{IsItsOwnCode, IsOfCandidate}
 use Rattle.duk_journal_host.specs.Judgement.{FindsState, reversal_entry, room_for_payments}
 use Rattle.duk_journal_host.specs.Latest.{latest_entries}
-use Rattle.duk_journal_host.specs.Steps.{IsSettlement}
+use Rattle.duk_journal_host.specs.Steps.{IsSettlement, added_by}
 use Rattle.duk_journal_host.specs.declared.authentic.Purchase.{Purchase}
 use Rattle.duk_journal_host.specs.declared.candidate.Candidate.{Candidate}
 use Rattle.duk_journal_host.specs.declared.settlement.Settled.{Settled}
@@ -68,3 +68,11 @@ IsSettledOver bound entries is_code (settled.Reversal reversal settlement) =
 abbrev pub IsSettledIn : Bound → Entries → Candidate → Settled → Type 0
 IsSettledIn bound entries candidate done =
     IsOfCandidate candidate done × IsSettledOver bound entries (IsItsOwnCode candidate) done
+
+-- candidates are settled so, in turn: each by what is kept with those before it
+abbrev pub AreSettledInTurn : Bound → Entries → List Candidate → List Settled → Type 0
+AreSettledInTurn bound entries [] [] = Unit {0}
+AreSettledInTurn bound entries (candidate ∷ candidates) (done ∷ others) =
+    IsSettledIn bound entries candidate done
+    × AreSettledInTurn bound (entries ++ added_by done) candidates others
+AreSettledInTurn bound entries _ _ = ⊥

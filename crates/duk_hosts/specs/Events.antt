@@ -12,7 +12,7 @@ use Rattle.duk_journal_host.specs.Candidate.{IsCandidate}
 use Rattle.duk_journal_host.specs.Steps.{IsAnswerOf, IsDismissed, added_by}
 use Rattle.duk_journal_host.specs.declared.candidate.Candidate.{Candidate}
 use Rattle.duk_journal_host.specs.declared.settlement.Settled.{Settled}
-use Rattle.duk_hosts.specs.Book.{Book, Bound, IsSettledIn}
+use Rattle.duk_hosts.specs.Book.{AreSettledInTurn, Book, Bound}
 
 -- the hosts: the keys, which all of them hold, and what the issuer of each decides. An issuer that
 -- changed its mind is that of another host
@@ -73,12 +73,11 @@ abbrev pub WereJudged : List Event → List Outcome → Type 0
 WereJudged events group =
     (outcome : Outcome) → Contains group outcome → Contains events (Judges outcome.judged)
 
--- a group is settled in turn, each candidate by what is kept with those before it
+-- a group is settled in turn
 abbrev pub AreSettledIn : Bound → Entries → List Outcome → Type 0
-AreSettledIn bound entries [] = Unit {0}
-AreSettledIn bound entries (outcome ∷ others) =
-    IsSettledIn bound entries outcome.judged.candidate outcome.settled
-    × AreSettledIn bound (entries ++ added_by outcome.settled) others
+AreSettledIn bound entries group =
+    AreSettledInTurn bound entries (map (λ outcome. outcome.judged.candidate) group)
+    (map (λ outcome. outcome.settled) group)
 
 -- after these events this one may happen
 abbrev pub MayHappen : Hosts → Book → List Event → Event → Type 0

@@ -3,3 +3,4 @@ pub mod Events
 pub mod OneHost
 pub mod Told
 pub mod Tills
+pub mod inner

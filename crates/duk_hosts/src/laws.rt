@@ -4,28 +4,39 @@
 //! in any order and again; what a host judged long ago may be settled now, again, or by another host;
 //! and what was settled may be answered at any later time, more than once, or never.
 
-ghost use Rattle.std.specs.Prelude.{◌≡◌, ◌-◌, ◌++◌, [], ◌∷◌, ℕ, List, Contains, Option, length, map};
+ghost use Rattle.std.specs.Prelude.{◌≡◌, ◌≢◌, ◌-◌, ◌++◌, [], ◌∷◌, ℕ, List, Contains, Err, Ok, Option, Result, length, map};
+ghost use Rattle.duk_frame.specs.declared.code.Code.{Code};
 ghost use Rattle.duk_host.specs.Judgement.{Decision};
 ghost use Rattle.duk_host.specs.Lifetime.{AcceptsAlike, AcceptsNumber};
 ghost use Rattle.duk_journal.specs.Groups.{Entries};
 ghost use Rattle.duk_journal.specs.Standing.{Stands, UseNewNumbers, reversed_numbers};
 ghost use Rattle.duk_reversal.specs.Numbers.{Numbers};
 ghost use Rattle.duk_reversal.specs.declared.state.ReversalState.{ReversalState};
+ghost use Rattle.duk_store.specs.declared.fault.StoreFault.{StoreFault};
+ghost use Rattle.duk_term.specs.declared.answer.Answer.{Answer};
+ghost use Rattle.duk_term.specs.declared.answer.Answer.TheVariants as term_answer;
+ghost use Rattle.duk_term.specs.declared.answer.Begun.{Begun};
+ghost use Rattle.duk_term.specs.declared.answer.ReversalAnswer.{ReversalAnswer};
+ghost use Rattle.duk_term.specs.declared.answer.ReversalAnswer.TheVariants as term_reversal;
+ghost use Rattle.duk_term.specs.declared.purchase.Purchase.{Purchase};
 ghost use Rattle.duk_till.specs.History.{Entry};
-ghost use Rattle.duk_till.specs.Lifetime.{Call, IsLifetime};
+ghost use Rattle.duk_till.specs.Lifetime.{Begin, Call, IsLifetime, Reply, Reverse, ReversalReply};
 ghost use Rattle.duk_till.specs.Till.{IsAtRest, TillOf};
+ghost use Rattle.duk_till.specs.declared.fault.TillFault.{TillFault};
+ghost use Rattle.duk_till.specs.declared.fault.TillFault.TheVariants as till_fault;
 ghost use Rattle.duk_till.specs.declared.last.Last.{Last};
 ghost use Rattle.duk_till.specs.declared.state.TillState.TheVariants.{Running};
 ghost use Rattle.duk_tree.specs.Serial.{Serial};
+ghost use Rattle.duk_journal_host.specs.Candidate.{IsCandidate};
 ghost use Rattle.duk_journal_host.specs.Judged.{AreJudged, AreRepliesOf, AreReversalRepliesOf, IsAsTold, TellWhatIsKept, TellsAlike, TellsNumber, TellsReversal};
 ghost use Rattle.duk_journal_host.specs.Judgement.{line_basis};
-ghost use Rattle.duk_journal_host.specs.Steps.{added_by, number_in};
+ghost use Rattle.duk_journal_host.specs.Steps.{IsDismissed, added_by, number_in};
 ghost use Rattle.duk_journal_host.specs.declared.candidate.Candidate.{Candidate};
 ghost use Rattle.duk_journal_host.specs.declared.settlement.Settled.{Settled};
 ghost use Rattle.duk_hosts.specs.Book.{Book, Bound, IsSettledIn};
-ghost use Rattle.duk_hosts.specs.Events.{Answers, Event, Hosts, IsHistory, Judged, Judges, MayHappen, Outcome, Settles, Turn, all_answers, all_outcomes, kept_after};
+ghost use Rattle.duk_hosts.specs.Events.{Answers, Ask, Event, Hosts, IsHistory, Judged, Judges, MayHappen, Outcome, Refuses, Settles, Turn, all_answers, all_outcomes, kept_after};
 ghost use Rattle.duk_hosts.specs.OneHost.{DidAsOne, DoesFor, InTurn, IsTurnOf};
-ghost use Rattle.duk_hosts.specs.Tills.{Agrees, AgreesButOpen, PaysAt, StandsAsTold, WereGivenIn, WereSentIn};
+ghost use Rattle.duk_hosts.specs.Tills.{Agrees, AgreesButOpen, PaysAt, StandsAsTold, WereGivenIn, WereSentIn, all_sent};
 ghost use Rattle.duk_hosts.specs.Told.{FindsNoRoom, IsSettledAgain, RefusesPayment, WasAccepted};
 
 use duk_store::Cell;
@@ -138,14 +149,24 @@ pub fn settled_again()
         → added_by again.settled ≡ [] }
 {}
 
-/// Whatever happened, what any host ever judged may be settled now, and what was ever settled may be
-/// answered now, again too. So no host waits for another, or has to know that one stopped. And a book
-/// settles each candidate in some way, whatever it keeps.
+/// Whatever happened, any host may judge any frame now; what any host ever judged may be settled now, in
+/// groups of any size; and what was ever settled may be answered now, again too. So no host waits for
+/// another, or has to know that one stopped. And a book settles each candidate in some way, whatever it
+/// keeps: `MemBook` does it.
 pub fn goes_on()
-    ensures settled { (hosts : Hosts) (book : Book) (events : List Event) (judged : Judged)
-        → IsHistory hosts book events → Contains events (Judges judged)
-        → (settled : Settled) × IsHistory hosts book
-        (events ++ Settles (record { judged = judged; settled = settled } ∷ []) ∷ []) }
+    ensures refused { (hosts : Hosts) (book : Book) (events : List Event) (ask : Ask)
+        → (answer : List ℕ) → IsHistory hosts book events
+        → IsDismissed hosts.keys ask.frame answer
+        → IsHistory hosts book (events ++ Refuses ask answer ∷ []) }
+    ensures judged { (hosts : Hosts) (book : Book) (events : List Event) (judged : Judged)
+        → IsHistory hosts book events
+        → IsCandidate hosts.keys (hosts.decides judged.ask.host) judged.ask.frame judged.candidate
+        → IsHistory hosts book (events ++ Judges judged ∷ []) }
+    ensures settled { (hosts : Hosts) (book : Book) (events : List Event) (group : List Judged)
+        → IsHistory hosts book events
+        → ((judged : Judged) → Contains group judged → Contains events (Judges judged))
+        → (outcomes : List Outcome) × (map (λ outcome. outcome.judged) outcomes ≡ group)
+        × IsHistory hosts book (events ++ Settles outcomes ∷ []) }
     ensures answered { (hosts : Hosts) (book : Book) (events : List Event) (outcome : Outcome)
         → IsHistory hosts book events → Contains (all_outcomes events) outcome
         → (answer : List ℕ) × IsHistory hosts book (events ++ Answers outcome answer ∷ []) }
@@ -202,6 +223,10 @@ pub fn merchants_agree<C: Cell, J: Cell>()
 /// found authentic that the till did not send, and after each call of the till that takes no frame but one
 /// which a host gave. So they hold in every world of tills and hosts that is made up step by step of
 /// these.
+///
+/// A till sends the frame of each purchase and of each reversal that it begins. It takes a frame only
+/// where that tells it what became of its purchase, or where its store then fails: what it refuses may
+/// come from anybody.
 pub fn tills_go_on()
     ensures first { (hosts : Hosts) (bound : Bound) (iksn : ℕ)
         → PaysAt hosts (record { first = []; bound = bound }) [] iksn [] }
@@ -212,4 +237,23 @@ pub fn tills_go_on()
     ensures call { (hosts : Hosts) (book : Book) (events : List Event) (iksn : ℕ) (call : Call)
         → (calls : List Call) → PaysAt hosts book events iksn calls
         → WereGivenIn events (call ∷ []) → PaysAt hosts book events iksn (call ∷ calls) }
+    ensures begin_sends { (purchase : Purchase) (begun : Begun) (calls : List Call)
+        → Contains (all_sent (Begin purchase (Ok begun) ∷ calls)) begun.frame.items }
+    ensures reverse_sends { (begun : Begun) (calls : List Call)
+        → Contains (all_sent (Reverse (Ok begun) ∷ calls)) begun.frame.items }
+    ensures stays_sent { (call : Call) (calls : List Call) (frame : List ℕ)
+        → Contains (all_sent calls) frame → Contains (all_sent (call ∷ calls)) frame }
+    ensures refused_reply { (events : List Event) (bytes : List ℕ)
+        → (said : Result Answer TillFault) → ((code : Code) → said ≢ Ok (term_answer.Done code))
+        → ((why : StoreFault) → said ≢ Err (till_fault.Store why))
+        → WereGivenIn events (Reply bytes said ∷ []) }
+    ensures refused_reversal_reply { (events : List Event) (bytes : List ℕ)
+        → (said : Result ReversalAnswer TillFault)
+        → ((found : ReversalState) → said ≢ Ok (term_reversal.Done found))
+        → ((why : StoreFault) → said ≢ Err (till_fault.Store why))
+        → WereGivenIn events (ReversalReply bytes said ∷ []) }
+    ensures no_reply { (events : List Event) (call : Call)
+        → ((bytes : List ℕ) (said : Result Answer TillFault) → call ≢ Reply bytes said)
+        → ((bytes : List ℕ) (said : Result ReversalAnswer TillFault)
+        → call ≢ ReversalReply bytes said) → WereGivenIn events (call ∷ []) }
 {}

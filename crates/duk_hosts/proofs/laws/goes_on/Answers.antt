@@ -1,4 +1,4 @@
-use Rattle.duk_hosts.proofs.GoingOn.{answered_now, settled_now, settled_somehow}
+use Rattle.duk_hosts.proofs.GoingOn.{answered_now, judged_now, refused_now, settled_now, settled_somehow}
 use Rattle.duk_hosts.proofs.Settling.{answer_of}
 use Rattle.duk_hosts.proofs.Standing.{founded_run}
 use Rattle.duk_hosts.proofs.Again.{settled_in}
@@ -14,6 +14,8 @@ module _ (c : After-steps) where
 
 pub returns : goal.returns
 returns c = record {
+  refused = refused_now;
+  judged = judged_now;
   settled = settled_now;
   answered = λ hosts book events outcome history is_in.
       let run = founded_run (laws c) hosts book events history in
