@@ -1,6 +1,7 @@
-"""The statement that settles a group in PostgreSQL: over random groups it says and keeps what the model
-of the book does, one by one and over several connections at once; and differences that are planted in it
-are found. `tools/test -k book_statement --times 50` compares 100,000 groups one by one."""
+"""The statement that settles a group in PostgreSQL: over random groups it says and keeps what the model of
+the book and the proved book do, one by one and over several connections at once; and differences that are
+planted in it or in the model are found. `tools/test -k book_statement --times 50` compares 100,000 groups
+one by one."""
 from __future__ import annotations
 
 import os
@@ -8,9 +9,10 @@ import subprocess
 from typing import Optional
 
 from ..support.book.cluster import Cluster, folder_for
-from ..support.book.groups import MACS, number_of
+from ..support.book.groups import MACS, number_of, worlds
 from ..support.book.hosts import library
-from ..support.book.plants import LANES, PLANTS, SCANS, with_plant
+from ..support.book.plants import LANES, MODELS, PLANTS, SCANS, with_plant
+from ..support.book.proved import difference
 from ..support.case import Case
 from ..support.program import ROOT
 
@@ -68,3 +70,12 @@ class Statement(Case):
             self.assertIsNotNone(self.difference(ENOUGH * plant.lanes, plant.lanes), plant.name)
         self.cluster.sql(with_plant())
         self.assertIsNone(self.difference(ENOUGH, 1))
+
+
+class Model(Case):
+    def test_planted_in_the_model(self) -> None:
+        """The proved book finds each of these differences."""
+        groups = [world.groups for world in worlds(self.chance, ENOUGH)]
+        self.assertIsNone(difference(groups))
+        for model in MODELS:
+            self.assertIsNotNone(difference(groups, model), model.__doc__)

@@ -64,11 +64,11 @@ fn code_kept(entries: &[Entry], purchase: &Purchase) -> Option<Code>
     ensures found { IfSome result (KnowsPurchase NoBound entries.now purchase.now) }
     ensures none { IfNone result (IsUnknown (KnowsPurchase NoBound entries.now purchase.now)) }
 {
+    let code = code_paid(entries, purchase)?;
     if is_reversed(entries, purchase.number) {
-        None
-    } else {
-        code_paid(entries, purchase)
+        return None;
     }
+    Some(code)
 }
 
 /// The code of the same purchase, if it is kept, whether or not it is undone.

@@ -1,5 +1,6 @@
-"""Compares the statement of the book with the model, over random groups: what each is answered, and what
-the table keeps. It is a program of its own, which Debian's Python runs, as it runs the host:
+"""Compares the statement of the book with the model and with the book that is proved, over random groups:
+what each is answered, and what is kept. It is a program of its own, which Debian's Python runs, as it runs
+the host:
 
     python3 -m tests.support.book.compare DSN SEED GROUPS LANES
 
@@ -20,6 +21,7 @@ import asyncpg
 from ..models.model_book import Asked, Book
 from ..program import ROOT
 from .groups import COUNTER_BITS, World, number_of, worlds
+from .proved import Group, difference
 
 sys.path.insert(0, str(ROOT / "share/host"))
 from dukpt_host.book import settling  # noqa: E402
@@ -31,7 +33,7 @@ IN_ORDER = """select said, clock_timestamp() from dukpt.settle($1, $2, $3, $4, $
 
 
 class Differs(Exception):
-    """Where statement and model differ."""
+    """Where statement, model and proved book differ."""
 
 
 def judged(it: Asked) -> bytes:
@@ -73,15 +75,17 @@ def compare_group(group: Sequence[Asked], found: Sequence[Optional[int]], book: 
                       f" and not {wanted[at]}")
 
 
-async def one_by_one(connection: Any, world: World) -> None:
+async def one_by_one(connection: Any, world: World) -> Sequence[Group]:
     book = Book()
     for group in world.groups:
         found = await settling.settle(connection, list(map(judged, group)), False)
         compare_group(group, list(map(said, group, found)), book)
     await compare_kept(connection, world, book)
+    return world.groups
 
 
-async def at_once(connections: Sequence[Any], world: World) -> None:
+async def at_once(connections: Sequence[Any], world: World) -> Sequence[Group]:
+    """The groups in the order in which they were settled."""
     left, done = deque(world.groups), []
 
     async def lane(connection: Any) -> None:
@@ -93,9 +97,11 @@ async def at_once(connections: Sequence[Any], world: World) -> None:
 
     await asyncio.gather(*map(lane, connections))
     book = Book()
-    for _, group, found in sorted(done, key=lambda it: it[0]):
+    in_order = sorted(done, key=lambda it: it[0])
+    for _, group, found in in_order:
         compare_group(group, found, book)
     await compare_kept(connections[0], world, book)
+    return [group for _, group, _ in in_order]
 
 
 async def compare(dsn: str, seed: str, groups: int, lanes: int) -> None:
@@ -103,15 +109,19 @@ async def compare(dsn: str, seed: str, groups: int, lanes: int) -> None:
     connections = [await asyncpg.connect(dsn, server_settings=SESSION) for _ in range(lanes)]
     for it in connections:
         await it.execute("set synchronous_commit = off")
+    settled = []
     try:
         for world in worlds(chance, groups):
             if lanes == 1:
-                await one_by_one(connections[0], world)
+                settled.append(await one_by_one(connections[0], world))
             else:
-                await at_once(connections, world)
+                settled.append(await at_once(connections, world))
     finally:
         for it in connections:
             it.terminate()
+    differs = difference(settled)
+    if differs:
+        raise Differs(differs)
 
 
 def main(words: Sequence[str]) -> int:

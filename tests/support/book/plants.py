@@ -1,8 +1,10 @@
-"""Differences that are planted in the statement of the book, in order that they are found."""
+"""Differences that are planted in the statement of the book and in its model, in order that they are
+found."""
 from __future__ import annotations
 
 from typing import NamedTuple, Optional
 
+from ..models.model_book import NONE_STANDS, UNDONE, Asked, Book
 from .cluster import SCHEMA
 
 LANES = 4
@@ -51,6 +53,50 @@ PLANTS = (
           "where false"),
     LOCKS,
 )
+
+
+class AnyMac(Book):
+    """Another MAC is known again."""
+
+    def said_again(self, it: Asked) -> Optional[int]:
+        return super().said_again(it._replace(mac=self.kept[it.number].asked.mac))
+
+
+class KnownWhereUndone(Book):
+    """A payment that was reversed is known again."""
+
+    def said_again(self, it: Asked) -> Optional[int]:
+        reversals, self.reversals = self.reversals, {}
+        found = super().said_again(it)
+        self.reversals = reversals
+        return found
+
+
+class NewWhereReversed(Book):
+    """A number that was reversed is new."""
+
+    def settle_one(self, it: Asked) -> Optional[int]:
+        if it.number not in self.kept:
+            self.reversals.pop(it.number, None)
+        return super().settle_one(it)
+
+
+class NothingStands(Book):
+    """A reversal finds nothing."""
+
+    def first_said(self, it: Asked) -> int:
+        return it.code if it.is_payment else NONE_STANDS
+
+
+class Undoes(Book):
+    """A declined payment is undone."""
+
+    def first_said(self, it: Asked) -> int:
+        found = it.reversed is not None and self.kept.get(it.reversed)
+        return UNDONE if found and found.asked.is_payment else super().first_said(it)
+
+
+MODELS = (AnyMac, KnownWhereUndone, NewWhereReversed, NothingStands, Undoes)
 
 
 def with_plant(plant: Optional[Plant] = None) -> str:
