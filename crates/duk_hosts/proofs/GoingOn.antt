@@ -1,5 +1,5 @@
 -- Whatever happened, what was judged may be settled, and what was settled may be answered.
-use Rattle.std.proofs.Common.{◌≡◌, ◌≢◌, ◌⊎◌, ℕ, zero, suc, List, [], ◌∷◌, ◌++◌, Contains, inl, inr, map, refl, sym, ap, subst, ◌∙◌, append_assoc, arith}
+use Rattle.std.proofs.Common.{◌≡◌, ◌≢◌, ◌⊎◌, ℕ, zero, suc, List, [], ◌∷◌, ◌++◌, Contains, flat_map, inl, inr, map, refl, sym, ap, subst, ◌∙◌, append_assoc, arith}
 use Rattle.std.proofs.lemmas.List.{append-nil}
 use Rattle.duk_frame.specs.declared.code.Code.{Code}
 use Rattle.duk_frame.specs.declared.code.Code.TheVariants.{Approved, NoCard, OverLimit, Unreadable, WrongPin}
@@ -23,8 +23,9 @@ use Rattle.duk_journal_host.specs.declared.settlement.Settlement.{Settlement}
 use Rattle.duk_journal_host.specs.declared.settlement.Settlement.TheVariants.{Full, Kept, KnownAgain, Used}
 use Rattle.duk_journal_host.specs.declared.candidate.Candidate.{Candidate}
 use Rattle.duk_journal_host.specs.declared.candidate.Candidate.TheVariants as sent
-use Rattle.duk_hosts.specs.Book.{Book, Bound, IsSettledIn, KnowsPurchase, KnowsReversal, answerable, capacity_of, room_of}
-use Rattle.duk_hosts.specs.Events.{Answers, AreSettledIn, Ask, Event, Hosts, IsHistory, IsHistoryFrom, Judged, Judges, MayHappen, Outcome, Refuses, Settles, all_outcomes, kept_after}
+use Rattle.duk_hosts.specs.Book.{AreSettledInTurn, Book, Bound, IsSettledIn, KnowsPurchase, KnowsReversal, answerable, capacity_of, room_of}
+use Rattle.duk_hosts.specs.Events.{Answers, AreSettledIn, Ask, Event, Hosts, IsHistory, IsHistoryFrom, Judged, Judges, MayHappen, Outcome, Refuses, Settles, all_outcomes, entries_of, kept_after}
+use Rattle.duk_hosts.proofs.Histories.{kept_more}
 use Rattle.duk_hosts.proofs.Members.{first_in, front_or, later_in, map_in, none_in}
 
 -- ---- one thing or another
@@ -253,3 +254,19 @@ settled_now hosts book events group history were =
 pub answered_now : (hosts : Hosts) (book : Book) (events : List Event) (outcome : Outcome) (answer : List ℕ) → IsHistory hosts book events → Contains (all_outcomes events) outcome → IsAnswerOf hosts.keys outcome.settled answer
     → IsHistory hosts book (events ++ Answers outcome answer ∷ [])
 answered_now hosts book events outcome answer history was answers = one_more hosts book [] events (Answers outcome answer) history (was, answers)
+
+-- ---- what is settled in turn
+
+pub happens_in_turn : (hosts : Hosts) (book : Book) (events : List Event) (group : List Outcome) → IsHistory hosts book events → ((outcome : Outcome) → Contains group outcome → Contains events (Judges outcome.judged))
+    → AreSettledInTurn book.bound (kept_after book events) (map (λ (outcome : Outcome). outcome.judged.candidate) group) (map (λ (outcome : Outcome). outcome.settled) group) → IsHistory hosts book (events ++ Settles group ∷ [])
+happens_in_turn hosts book events group history were settles = one_more hosts book [] events (Settles group) history (were, settles)
+
+added_in : (group : List Outcome) → flat_map added_by (map (λ (outcome : Outcome). outcome.settled) group) ≡ entries_of group
+added_in [] = refl
+added_in (outcome ∷ group) = ap (λ (others : Entries). added_by outcome.settled ++ others) (added_in group)
+
+pub keeps_in_turn : (book : Book) (events : List Event) (group : List Outcome) → kept_after book (events ++ Settles group ∷ []) ≡ kept_after book events ++ flat_map added_by (map (λ (outcome : Outcome). outcome.settled) group)
+keeps_in_turn book events group =
+    kept_more book events (Settles group ∷ [])
+    ∙ ap (λ (outcomes : List Outcome). kept_after book events ++ entries_of outcomes) (append-nil group)
+    ∙ ap (λ (entries : Entries). kept_after book events ++ entries) (sym (added_in group))

@@ -4,7 +4,7 @@
 //! in any order and again; what a host judged long ago may be settled now, again, or by another host;
 //! and what was settled may be answered at any later time, more than once, or never.
 
-ghost use Rattle.std.specs.Prelude.{◌≡◌, ◌≢◌, ◌-◌, ◌++◌, [], ◌∷◌, ℕ, List, Contains, Err, Ok, Option, Result, length, map};
+ghost use Rattle.std.specs.Prelude.{◌≡◌, ◌≢◌, ◌-◌, ◌++◌, [], ◌∷◌, ℕ, List, Contains, Err, Ok, Option, Result, flat_map, length, map};
 ghost use Rattle.duk_frame.specs.declared.code.Code.{Code};
 ghost use Rattle.duk_host.specs.Judgement.{Decision};
 ghost use Rattle.duk_host.specs.Lifetime.{AcceptsAlike, AcceptsNumber};
@@ -33,7 +33,7 @@ ghost use Rattle.duk_journal_host.specs.Judgement.{line_basis};
 ghost use Rattle.duk_journal_host.specs.Steps.{IsDismissed, added_by, number_in};
 ghost use Rattle.duk_journal_host.specs.declared.candidate.Candidate.{Candidate};
 ghost use Rattle.duk_journal_host.specs.declared.settlement.Settled.{Settled};
-ghost use Rattle.duk_hosts.specs.Book.{Book, Bound, IsSettledIn};
+ghost use Rattle.duk_hosts.specs.Book.{AreSettledInTurn, Book, Bound, IsSettledIn};
 ghost use Rattle.duk_hosts.specs.Events.{Answers, Ask, Event, Hosts, IsHistory, Judged, Judges, MayHappen, Outcome, Refuses, Settles, Turn, all_answers, all_outcomes, kept_after};
 ghost use Rattle.duk_hosts.specs.OneHost.{DidAsOne, DoesFor, InTurn, IsTurnOf};
 ghost use Rattle.duk_hosts.specs.Tills.{Agrees, AgreesButOpen, PaysAt, StandsAsTold, WereGivenIn, WereSentIn, all_sent};
@@ -175,6 +175,20 @@ pub fn goes_on()
 {
     duk_journal_host::laws::steps();
 }
+
+/// What a book settles in turn of candidates that hosts judged, as `MemBook` does, may happen; and what is
+/// added is kept. So these laws are true of hosts over such a book.
+pub fn settled_in_turn()
+    ensures happens { (hosts : Hosts) (book : Book) (events : List Event) (group : List Outcome)
+        → IsHistory hosts book events
+        → ((outcome : Outcome) → Contains group outcome → Contains events (Judges outcome.judged))
+        → AreSettledInTurn book.bound (kept_after book events)
+        (map (λ outcome. outcome.judged.candidate) group) (map (λ outcome. outcome.settled) group)
+        → IsHistory hosts book (events ++ Settles group ∷ []) }
+    ensures keeps { (book : Book) (events : List Event) (group : List Outcome)
+        → kept_after book (events ++ Settles group ∷ [])
+        ≡ kept_after book events ++ flat_map added_by (map (λ outcome. outcome.settled) group) }
+{}
 
 /// Merchants and hosts agree. A till sends its payments and reversals to any of the hosts, over a network
 /// that loses, repeats and reorders frames. Whatever it told its merchant as approved stands in the book
