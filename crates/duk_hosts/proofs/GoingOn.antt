@@ -244,11 +244,10 @@ settled_now hosts book events group history were =
     let all = all_somehow book.bound (kept_after book events) group in (
       all.0,
       all.1,
-      one_more hosts book [] events (Settles all.0) history
-          (
-            λ outcome is_in. were outcome.judged (subst (λ (group : List Judged). Contains group outcome.judged) all.1 (map_in (λ (it : Outcome). it.judged) all.0 outcome is_in)),
-            all.2,
-          ),
+      one_more hosts book [] events (Settles all.0) history (
+        λ outcome is_in. were outcome.judged (subst (λ (group : List Judged). Contains group outcome.judged) all.1 (map_in (λ (it : Outcome). it.judged) all.0 outcome is_in)),
+        all.2,
+      ),
     )
 
 pub answered_now : (hosts : Hosts) (book : Book) (events : List Event) (outcome : Outcome) (answer : List ℕ) → IsHistory hosts book events → Contains (all_outcomes events) outcome → IsAnswerOf hosts.keys outcome.settled answer

@@ -1,5 +1,5 @@
 -- What a till told as approved, each payment once.
-use Rattle.std.proofs.Common.{◌≡◌, ◌≢◌, ◌⊎◌, ◌∷◌, [], ℕ, Bool, true, false, true≢false, List, AllPairs, Contains, get_or, if◌then◌else◌, inl, inr, map, nat_eq, refl, sym, ap, subst, ◌∙◌, arith}
+use Rattle.std.proofs.Common.{◌≡◌, ◌⊎◌, ◌∷◌, [], ℕ, Bool, true, false, true≢false, List, AllPairs, Contains, get_or, if◌then◌else◌, inl, inr, map, nat_eq, refl, sym, ap, subst, ◌∙◌, arith}
 use Rattle.std.proofs.lemmas.Bool.Decides.{Decides-and, Decides-by_or, Decides-eqb, Decides-like}
 use Rattle.std.proofs.lemmas.List.Elements.{Contains-get_or, Decides-contains}
 use Rattle.std.proofs.lemmas.List.Kept.{AllPairs-cons}

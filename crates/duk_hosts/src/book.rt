@@ -38,11 +38,7 @@ impl MemBook {
 
     /// Settles a group in turn: each candidate by what is kept with those before it. Where memory is
     /// refused, nothing of the group is kept.
-    pub fn settle(
-        &mut self,
-        alloc: Global,
-        group: &[Candidate],
-    ) -> Result<Vec<Settled>, AllocError>
+    pub fn settle(&mut self, alloc: Global, group: &[Candidate]) -> Result<Vec<Settled>, AllocError>
         ensures settled { IfOk result (λ done.
             AreSettledInTurn NoBound self.old group.now done.items) }
         ensures kept { IfOk result (λ done. self.new ≡ self.old ++ flat_map added_by done.items) }

@@ -1,8 +1,8 @@
 //! How a candidate is settled by the entries of a book without bound: each of them is looked at.
 
-ghost use Rattle.std.specs.Prelude.{◌≡◌, ◌≢◌, ◌↔◌, ℕ, Contains, IfNone, IfSome, IsTrue};
+ghost use Rattle.std.specs.Prelude.{◌≡◌, ◌≢◌, ◌↔◌, Contains, IfNone, IfSome, IsTrue};
 ghost use Rattle.duk_frame.specs.declared.code.Code.{Code};
-ghost use Rattle.duk_journal.specs.Standing.{HasApproved, numbers_in, payment_entry, reversed_in, reversed_numbers, used_by};
+ghost use Rattle.duk_journal.specs.Standing.{numbers_in, reversed_in, reversed_numbers, used_by};
 ghost use Rattle.duk_reversal.specs.declared.state.ReversalState.{ReversalState};
 ghost use Rattle.duk_journal_host.specs.Judgement.{FindsState, reversal_entry};
 ghost use Rattle.duk_journal_host.specs.Steps.{IsUnknown};
@@ -150,7 +150,8 @@ fn is_approval(entry: &Entry, number: Ksn) -> bool
     }
     match entry.decided {
         Decided::Payment {
-            code: Code::Approved, ..
+            code: Code::Approved,
+            ..
         } => true,
         _ => false,
     }
