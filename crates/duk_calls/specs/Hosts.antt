@@ -172,6 +172,26 @@ SaysSettled said (settled.Reversal reversal settlement) =
     × (reversal.mac ≡ take 8 (drop 22 said))
     × IsReversalSaid said settlement
 
+-- bytes with these in the place of those from a place on
+abbrev pub with_at : ℕ → List ℕ → List ℕ → List ℕ
+with_at place these bytes = take place bytes ++ with_front these (drop place bytes)
+
+-- the 64 bytes of a candidate, marked with what became of it: how it was settled in the second byte,
+-- and what came of it from a place on
+abbrev pub marked_at : {T : Type 0} → ℕ → (T → List ℕ) → Settlement T → List ℕ → List ℕ
+marked_at place bytes_of (Kept outcome) said =
+    with_at 1 (1 ∷ []) (with_at place (bytes_of outcome) said)
+marked_at place bytes_of (KnownAgain outcome) said =
+    with_at 1 (2 ∷ []) (with_at place (bytes_of outcome) said)
+marked_at place bytes_of Used said = with_at 1 (3 ∷ []) said
+marked_at place bytes_of Full said = with_at 1 (4 ∷ []) said
+
+-- a payment's code stands in the place of its own, and what a reversal found behind its fields
+abbrev pub marked : Settled → List ℕ → List ℕ
+marked (settled.Payment purchase settlement) = marked_at 16 code_text settlement
+marked (settled.Reversal reversal settlement) =
+    marked_at 30 (λ state. state_byte state ∷ []) settlement
+
 -- the 64 bytes say nothing that was settled
 abbrev pub SaysNothing : List ℕ → Type 0
 SaysNothing said = (settled : Settled) → ¬ SaysSettled said settled
@@ -190,6 +210,11 @@ abbrev pub SaysAnswer : HsmKeys → List ℕ → List ℕ → Type 0
 SaysAnswer keys said answer =
     ((settled : Settled) × SaysSettled said settled × HasAnswer keys settled answer)
     ⊎ (SaysNothing said × (answer ≡ padded (fault_number fault.NotSettled ∷ [])))
+
+-- the 64 bytes begin with the frame that answers what was settled, and zeros follow
+pub record BeginsWithAnswer (keys : HsmKeys) (settled : Settled) (answer : List ℕ) : Type 0 where
+  pub answers : IsAnswerOf keys settled (front_frame answer)
+  pub zeros : answer ≡ padded (front_frame answer)
 
 -- an image of a module, places of 64 bytes for what was settled, and room for as many answers
 pub record FitAnswering (image said answers : List ℕ) : Type 0 where

@@ -18,6 +18,7 @@ mod fault;
 mod frames;
 mod judging;
 mod keys;
+pub mod laws;
 mod macs;
 mod many_keys;
 mod many_requests;
