@@ -8,12 +8,13 @@ import os
 import subprocess
 from typing import Optional
 
-from ..support.book.cluster import Cluster, folder_for
-from ..support.book.groups import MACS, number_of, worlds
+from ..support.book.cluster import IDLE, Cluster, folder_for
+from ..support.book.groups import MACS, call_of, number_of, worlds
 from ..support.book.hosts import library
 from ..support.book.plants import LANES, MODELS, PLANTS, SCANS, with_plant
 from ..support.book.proved import difference
 from ..support.case import Case
+from ..support.models.model_book import Asked
 from ..support.program import ROOT
 
 # Debian's, which has asyncpg: the host is run by it too.
@@ -55,13 +56,24 @@ class Statement(Case):
 
     def scans(self) -> str:
         """How often a payment and a reversal have the whole table read."""
-        paid, own, other = (f"'\\x{number_of(1, it).hex()}'::bytea" for it in (1, 2, 3))
-        mac = f"'\\x{MACS[0].hex()}'::bytea"
+        paid, own, other = (number_of(1, it) for it in (1, 2, 3))
         return self.cluster.sql(
-            "begin", f"select dukpt.settle('{{1,2}}', array[{paid}, {own}], array[{mac}, {mac}], "
-            f"'{{5,null}}', '{{0,null}}', array[null, {other}])",
+            "begin", call_of([Asked(paid, MACS[0], 5), Asked(own, MACS[0], reversed=other)]),
             "select seq_scan from pg_stat_xact_user_tables where relid = 'dukpt.number'::regclass",
             "rollback").splitlines()[-1]
+
+    def test_waits(self) -> None:
+        """A group waits for one of the same terminal, and for none of another, however close they are."""
+        first, same = (call_of([Asked(number_of(6, it), MACS[0])]) for it in (1, 2))
+        with self.cluster.session() as other:
+            other.tell(f"begin; {first};")
+            self.cluster.wait_for(IDLE, "1")
+            for close in (7, 4, 2):
+                call = call_of([Asked(number_of(close, 1), MACS[0])])
+                self.assertEqual(self.cluster.sql("set lock_timeout = '20s'", call), "{0}")
+            with self.assertRaisesRegex(AssertionError, "lock timeout"):
+                self.cluster.sql("set lock_timeout = '50ms'", same)
+        self.assertEqual(self.cluster.sql(same), "{0}")
 
     def test_planted(self) -> None:
         """Each of these differences is found."""

@@ -7,6 +7,7 @@ import signal
 import time
 from typing import Sequence
 
+from ..support.book.cluster import IDLE
 from ..support.book.hosts import NO_END, BookCase
 from ..support.book.plants import LOCKS, with_plant
 from ..support.models.model_journal import Judge, Judged, added_by, answers_of
@@ -20,7 +21,6 @@ from ..support.service.service import cuts
 CLIENTS, EACH = 8, 24
 WAITS = "select count(*) from pg_stat_activity where wait_event = 'SyncRep' and query like '%settle%'"
 CANCELS = WAITS.replace("count(*)", "pg_cancel_backend(pid)")
-IDLE = "select count(*) from pg_stat_activity where state = 'idle in transaction'"
 BLOCKED = """select count(*) from pg_stat_activity where wait_event_type = 'Lock'
 and query like '%settle%'"""
 LOCKED = """select count(*) from pg_locks where mode = 'AccessExclusiveLock'

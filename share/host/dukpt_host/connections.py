@@ -41,11 +41,15 @@ class Connections:
         self.limits, self.waiting, self.metrics, self.log = limits, waiting, metrics, log
         self.unread = limits.unread
         self.all: set[Connection] = set()
+        # Why all are ended, also those that open from then on.
+        self.ending = ""
         metrics.connections = lambda: len(self.all)
 
     def opened(self, it: Connection) -> None:
         self.all.add(it)
         self.metrics.opened += 1
+        if self.ending:
+            it.end(self.ending)
 
     def closed(self, it: Connection) -> None:
         self.all.discard(it)
@@ -73,7 +77,9 @@ class Connections:
                 it.cut_off("idle")
 
     def end_all(self, why: str) -> None:
-        """Reads no more of any, and closes each when all that was read is answered."""
+        """Reads no more of any, also of who is being let in, and closes each when all that was read
+        is answered."""
+        self.ending = why
         for it in list(self.all):
             it.end(why)
 

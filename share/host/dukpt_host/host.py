@@ -39,7 +39,7 @@ class Host:
     async def run(self) -> int:
         """Serves until a signal asks for the end."""
         for way in (signal.SIGTERM, signal.SIGINT, signal.SIGHUP):
-            asyncio.get_running_loop().add_signal_handler(way, self.service.stop)
+            asyncio.get_running_loop().add_signal_handler(way, self.stop)
         web = await self.open_web()
         serving = asyncio.create_task(self.service.run())
         beats = asyncio.create_task(self.beat())
@@ -49,7 +49,6 @@ class Host:
         notify("STOPPING=1")
         for task in doors:
             task.cancel()
-        self.door.shut()
         for it in self.sockets:
             it.close()
         self.connections.end_all("stop")
@@ -61,6 +60,11 @@ class Host:
             if web:
                 web.close()
         return self.service.status
+
+    def stop(self) -> None:
+        """Reads no more, has what was read answered, and then ends."""
+        self.connections.end_all("stop")
+        self.service.stop()
 
     async def let_in(self, listener: socket.socket) -> None:
         await self.service.settled.wait()

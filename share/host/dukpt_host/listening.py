@@ -138,11 +138,6 @@ class Door:
             self.refuse(taken, it.peer, "no TLS" if self.context else "gone")
             self.log.clients.tell(f"{it.peer}: {getattr(why, 'reason', None) or why}")
 
-    def shut(self) -> None:
-        """Lets nobody in any more."""
-        for it in self.entering:
-            it.cancel()
-
 
 def prepare(it: socket.socket, unread: int) -> None:
     """Has the system look whether a client is there still, and hold about so many bytes for it."""

@@ -31,6 +31,8 @@ wal_receiver_status_interval = 1s
 autovacuum = off
 """
 SECONDS = 60
+# Whether a session has begun a transaction, and has done what it was told.
+IDLE = "select count(*) from pg_stat_activity where state = 'idle in transaction'"
 # What the clusters of several tests at once have, in bytes.
 ROOM = 2 << 30
 

@@ -27,6 +27,7 @@ sys.path.insert(0, str(ROOT / "share/host"))
 from dukpt_host.book import settling  # noqa: E402
 from dukpt_host.book.opening import SESSION  # noqa: E402
 
+TERMINALS = "select iksn from dukpt.terminal where iksn between $1 and $2"
 ROWS = """select kind, ksn, mac, amount, code, reverses, state, reversed_by from dukpt.number
 where ksn between $1 and $2"""
 IN_ORDER = """select said, clock_timestamp() from dukpt.settle($1, $2, $3, $4, $5, $6) as said"""
@@ -59,12 +60,17 @@ def said(given: Asked, settled: bytes) -> Optional[int]:
 
 
 async def compare_kept(connection: Any, world: World, book: Book) -> None:
-    found = set()
+    """The numbers that are kept, and the terminals that were asked about."""
+    found, terminals = set(), set()
     for it in world.terminals:
-        rows = await connection.fetch(ROWS, number_of(it, 0), number_of(it, (1 << COUNTER_BITS) - 1))
-        found |= set(map(tuple, rows))
+        both = number_of(it, 0), number_of(it, (1 << COUNTER_BITS) - 1)
+        found |= set(map(tuple, await connection.fetch(ROWS, *both)))
+        terminals |= {row["iksn"] for row in await connection.fetch(TERMINALS, *both)}
     if found != book.rows():
         raise Differs(f"kept: {sorted(map(str, found ^ book.rows()))[0]}")
+    asked = {int.from_bytes(it.number, "big") >> COUNTER_BITS for group in world.groups for it in group}
+    if terminals != {(it << COUNTER_BITS).to_bytes(10, "big") for it in asked}:
+        raise Differs(f"terminals: {sorted(it.hex() for it in terminals)}")
 
 
 def compare_group(group: Sequence[Asked], found: Sequence[Optional[int]], book: Book) -> None:

@@ -3,7 +3,7 @@ from __future__ import annotations
 
 import random
 from dataclasses import dataclass
-from typing import Iterator, Sequence
+from typing import Iterator, Optional, Sequence
 
 from ..models.model_book import Asked
 
@@ -14,6 +14,10 @@ TERMINALS, GROUPS, FRAMES = 2, 8, 12
 COUNTER_BITS = 21
 # The counters of each terminal, up to the highest bits.
 COUNTERS = (1, 2, 3, 1 << 15, 1 << 16, 3 << 18, 1 << 20)
+
+
+# The types of what the statement is given.
+TYPES = ("int2", "bytea", "bytea", "int8", "int2", "bytea")
 
 
 @dataclass(frozen=True)
@@ -57,3 +61,16 @@ def asked(chance: random.Random, terminal: int) -> Asked:
     if chance.random() < 0.6:
         return Asked(own, mac, chance.randrange(1 << 32), chance.choice(CODES))
     return Asked(own, mac, reversed=other)
+
+
+def call_of(group: Sequence[Asked]) -> str:
+    """The statement that settles a group, in SQL."""
+    rows = [("1", typed(it.number), typed(it.mac), str(it.amount), str(it.code), "null") if it.is_payment
+            else ("2", typed(it.number), typed(it.mac), "null", "null", typed(it.reversed))
+            for it in group]
+    lists = (f"array[{', '.join(column)}]::pg_catalog.{kind}[]" for column, kind in zip(zip(*rows), TYPES))
+    return f"select dukpt.settle({', '.join(lists)})"
+
+
+def typed(value: Optional[bytes]) -> str:
+    return f"'\\x{value.hex()}'" if value is not None else "null"

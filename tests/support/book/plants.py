@@ -24,9 +24,12 @@ LOCKS = Plant("terminals that are there are not taken",
               "on conflict (iksn) do nothing", LANES)
 SCANS = Plant("plans read the whole table", """set enable_seqscan = off set enable_hashjoin = off
 set enable_mergejoin = off""", "")
+PATH = Plant("names are looked up as the caller wants", "set search_path = pg_catalog, pg_temp", "")
+TEMPORARY = Plant("names are looked up in temporary things first", "pg_catalog, pg_temp", "pg_catalog")
 FUNCTIONS = ("terminal_of", "settle")
 PLANTS = (
     Plant("a terminal has some bits of its counter", "get_byte(ksn, 7) & 224", "get_byte(ksn, 7) & 240"),
+    Plant("two terminals are one", "get_byte(ksn, 7) & 224", "get_byte(ksn, 7) & 192"),
     Plant("of equal numbers the last is kept", """place)
         order by ksn, place) as first
     where kind = 1""", """place)

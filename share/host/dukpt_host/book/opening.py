@@ -19,7 +19,6 @@ SESSION: Final = {"application_name": "dukpt-host", "jit": "off",
                   "client_connection_check_interval": "2s"}
 # Seconds for a connection to be made, and for a question to be answered.
 MAKING: Final = 5.0
-CLOSING: Final = 1.0
 # What a call over a connection may raise: faults of the database, of the line, and of time.
 FAULTS: Final = (asyncpg.PostgresError, asyncpg.InterfaceError, asyncpg.InternalClientError,
                  OSError, asyncio.TimeoutError)
@@ -78,14 +77,6 @@ async def standbys(connection: Any, is_replicated: bool) -> int:
     if fault:
         raise NotThere(fault) if fault == STANDBY else NotServed(fault)
     return int(found["held"])
-
-
-async def close(connection: Any) -> None:
-    """Closes a connection, in order where that is soon done."""
-    try:
-        await connection.close(timeout=CLOSING)
-    except FAULTS:
-        connection.terminate()
 
 
 def told(why: BaseException) -> str:

@@ -13,7 +13,7 @@ from ..metrics import Metrics
 from ..settings import Database
 from .counts import Counts
 from .lane import Lane
-from .opening import NotServed, close, open_ready, standbys
+from .opening import FAULTS, NotServed, open_ready, standbys, told
 
 # How often the database is looked at, and when a lane is opened again, in seconds.
 EVERY, REST = 1.0, 0.5
@@ -56,8 +56,9 @@ class BookService:
         watch = asyncio.create_task(self.watch())
         await asyncio.gather(*(self.keep_lane() for _ in range(self.database.groups)))
         watch.cancel()
+        # A database that is silent by now would not answer a farewell either.
         if self.watching is not None:
-            await close(self.watching)
+            self.watching.terminate()
         self.exchange.lose_all()
         self.module.close()
 
@@ -116,14 +117,22 @@ class BookService:
             if self.stopping.is_set():
                 return
             try:
-                connection = await open_ready(self.database.places, self.database.is_replicated)
+                lane = await self.open_lane()
             except NotServed as why:
                 if not self.wrong:
                     self.log.clients.tell(f"a connection to the database is not open: {why}")
                 await asyncio.sleep(REST)
                 continue
-            await self.serve(Lane(connection, self.database.is_replicated, self.module,
-                                  self.counts, self.log))
+            await self.serve(lane)
+
+    async def open_lane(self) -> Lane:
+        is_replicated = self.database.is_replicated
+        connection = await open_ready(self.database.places, is_replicated)
+        try:
+            return Lane(connection, is_replicated, self.module, self.counts, self.log)
+        except FAULTS as why:
+            # It has ended again meanwhile.
+            raise NotServed(told(why)) from None
 
     async def serve(self, lane: Lane) -> None:
         self.lanes.add(lane)
@@ -132,4 +141,4 @@ class BookService:
             await self.exchange.serve(lane)
         self.lanes.discard(lane)
         self.counts.lanes = len(self.lanes)
-        await close(lane.connection)
+        lane.kill()

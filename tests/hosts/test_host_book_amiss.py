@@ -1,0 +1,106 @@
+"""A host over a database that is not as it is to be: it says nothing any more, its role is set to another
+isolation, or a standby of it is a spare one."""
+from __future__ import annotations
+
+import os
+import signal
+import subprocess
+import time
+from contextlib import ExitStack, contextmanager
+from typing import Iterator
+
+from ..support.book.cluster import IDLE, USER, binaries
+from ..support.book.groups import call_of
+from ..support.book.hosts import BookCase
+from ..support.models.model_book import Asked
+from ..support.service.client import payments
+from ..support.service.host import SECONDS
+from ..support.service.reversals import counter_in, reversals_of
+from .test_host_book import BLOCKED
+
+# The connection that settles groups, and the one of the watch.
+SETTLES, WATCHES = "query like '%settle%'", "query not like '%settle%'"
+PLAIN = "serving, not replicated"
+STATE_OF = "select sync_state from pg_stat_replication where state = 'streaming' and application_name = '{}'"
+
+
+class Amiss(BookCase):
+    weight = 15
+
+    @contextmanager
+    def silent(self, which: str) -> Iterator[None]:
+        """One connection of a host to the database has no answer in the block."""
+        process = int(self.primary.sql("select pid from pg_stat_activity where"
+                                       f" application_name = 'dukpt-host' and {which}"))
+        os.kill(process, signal.SIGSTOP)
+        try:
+            yield
+        finally:
+            os.kill(process, signal.SIGCONT)
+
+    def test_silent_group(self) -> None:
+        """A group of which the database says nothing has its end by the host's clock, and its connections
+        with it. Frames that are sent again are answered, while the first connection is silent still."""
+        host, given = self.start_host("--not-replicated", "--groups", "1"), payments(4)
+        self.assertEqual(self.connect(host).ask(given[0].frame), given[0].answer)
+        with self.silent(SETTLES):
+            client = self.connect(host)
+            client.send(given[1].frame)
+            self.assertEqual(client.take_all(), b"")
+            host.told("what came of a group is not known: ")
+            answers = self.ask_until(host, given)
+            self.assertEqual(list(answers.values()), [it.answer for it in given])
+            self.assertEqual(host.metrics()["dukpt_book_groups_lost_total"], 1)
+            self.wait_for_health(host, 200, PLAIN)
+
+    def test_told_to_end_beside_a_silent_watch(self) -> None:
+        """It ends in order, and does not wait for a word of the database."""
+        host, given = self.start_host("--not-replicated", "--groups", "1"), payments(1)[0]
+        self.assertEqual(self.connect(host).ask(given.frame), given.answer)
+        self.wait_for_health(host, 200, PLAIN)
+        with self.silent(WATCHES):
+            # By then the watch has asked, as it does each second.
+            time.sleep(1.5)
+            self.assertEqual(host.stop(), 0)
+
+    def test_isolation(self) -> None:
+        """A group that waited for a terminal sees what was kept meanwhile, whatever its role is set to."""
+        self.primary.sql("alter role host set default_transaction_isolation = 'repeatable read'")
+        host, given = self.start_host("--not-replicated"), payments(2)
+        undoing = reversals_of([(counter_in(given[1]), counter_in(given[0]))])[0]
+        client = self.connect(host)
+        self.assertEqual(client.ask(given[0].frame), given[0].answer)
+        with self.primary.session() as other:
+            kept = Asked(undoing.number, undoing.mac, reversed=undoing.reversed)
+            other.tell(f"begin; {call_of([kept])};")
+            self.primary.wait_for(IDLE, "1")
+            client.send(undoing.frame)
+            self.primary.wait_for(BLOCKED, "1")
+            other.tell("commit;")
+            self.assertEqual(client.take_answers(2)[1:], [undoing.undone])
+        self.assertEqual(host.metrics()["dukpt_book_groups_lost_total"], 0)
+
+    @contextmanager
+    def receiver(self, name: str) -> Iterator[None]:
+        """A standby of this name that keeps the log, and nothing else."""
+        where = f"host={self.primary.folder} port={self.primary.port} user={USER} application_name={name}"
+        process = subprocess.Popen(
+            [binaries() / "pg_receivewal", "-D", self.folder(), "-d", where, "--synchronous", "--no-loop"],
+            stdin=subprocess.DEVNULL, stdout=subprocess.DEVNULL)
+        try:
+            yield
+        finally:
+            process.kill()
+            process.wait(SECONDS)
+
+    def test_spare_standby(self) -> None:
+        """One that takes the place of a synchronous standby when that is gone is not counted before."""
+        self.primary.set("synchronous_standby_names", "FIRST 1 (near, spare)")
+        with ExitStack() as both:
+            for name, state in (("near", "sync"), ("spare", "potential")):
+                both.enter_context(self.receiver(name))
+                self.primary.wait_for(STATE_OF.format(name), state)
+            host, given = self.start_host(places=[self.primary]), payments(1)[0]
+            host.told("serving, with 1 synchronous standbys")
+            self.assertEqual(self.connect(host).ask(given.frame), given.answer)
+            self.assertEqual(host.metrics()["dukpt_book_standbys"], 1)

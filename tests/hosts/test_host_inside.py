@@ -1,0 +1,55 @@
+"""`dukpt-host` in its own process: what is wiped, a client that comes as the host is told to end, and a
+connection to the database that ends as soon as it is open."""
+from __future__ import annotations
+
+import os
+import subprocess
+
+from ..support.book.hosts import library
+from ..support.case import Case
+from ..support.formats.bank import BANK
+from ..support.program import ROOT
+from ..support.service.host import SECONDS
+from ..support.service.host_keys import HostKeys
+from .test_book_statement import PYTHON
+
+FAULT = "config: zone: no key block"
+NOT_READ, READ = (f"{it} read, {it} answered, status 0" for it in range(2))
+
+
+class Inside(Case):
+    weight = 5
+
+    def found(self, what: str) -> list[str]:
+        """The lines of the program that looks."""
+        home, variables = self.folder(), library()
+        HostKeys(self.chance).write(home)
+        (home / "bank.toml").write_bytes(BANK)
+        variables["PYTHONPATH"] += f":{ROOT}"
+        done = subprocess.run([PYTHON, "-B", "-m", "tests.support.service.inside", what], cwd=home,
+                              capture_output=True, text=True, check=False, timeout=2 * SECONDS,
+                              env={**os.environ, **variables})
+        self.assertEqual(done.returncode, 0, done.stderr)
+        return done.stdout.splitlines()
+
+    def test_told_to_end_as_a_client_comes(self) -> None:
+        """Whenever that is, a frame that was read is answered, in the loop of Python and in that of
+        uvloop."""
+        found = self.found("entering")
+        self.assertEqual(set(found), {NOT_READ, READ})
+        self.assertEqual((found[0], found[-1]), (NOT_READ, READ))
+
+    def test_lanes(self) -> None:
+        """A host goes on behind connections that end at once. It closes its module when it ends."""
+        self.assertEqual(self.found("lanes"), ["opened 3, closed 1"])
+
+    def test_wiped(self) -> None:
+        """Lines, digits and local master key of components keep no byte, whether or not a start succeeds;
+        nor does the text for the process below, behind that. Modules that nobody needs are closed."""
+        self.assertEqual(self.found("wiped"), [
+            "a module: 5 wiped, 0 of them not; 0 of 1 modules closed",
+            "a module of test keys: 1 wiped, 0 of them not; 0 of 1 modules closed",
+            "a text: 5 wiped, 0 of them not; 1 of 1 modules closed",
+            "the text behind its host: 0 bytes",
+            f"{FAULT}: 5 wiped, 0 of them not; 1 of 1 modules closed",
+            f"{FAULT}: 5 wiped, 0 of them not; 1 of 1 modules closed"])

@@ -1,0 +1,235 @@
+"""What is seen of a host in its own process alone. It is a program of its own, which Debian's Python runs,
+as it runs the host, in a folder with a configuration, `bank.toml` and two components:
+
+    python3 -m tests.support.service.inside WHAT
+
+It writes what it finds, a line for each.
+"""
+from __future__ import annotations
+
+import asyncio
+import socket
+import sys
+from pathlib import Path
+from typing import Any, Callable, Iterator, Sequence
+
+import asyncpg
+import uvloop
+
+sys.path.insert(0, str(Path(__file__).resolve().parents[3] / "share/host"))
+import dukpt_host.host  # noqa: E402
+from dukpt import Module  # noqa: E402
+from dukpt_host import arguments, components, keys  # noqa: E402
+from dukpt_host.book import service as book  # noqa: E402
+from dukpt_host.configuration import Refused  # noqa: E402
+from dukpt_host.connections import Connections, Limits  # noqa: E402
+from dukpt_host.exchange import Exchange  # noqa: E402
+from dukpt_host.frames import MALFORMED, PROBE  # noqa: E402
+from dukpt_host.host import Host  # noqa: E402
+from dukpt_host.log import Log  # noqa: E402
+from dukpt_host.metrics import Metrics  # noqa: E402
+from dukpt_host.service import Service  # noqa: E402
+from dukpt_host.settings import Database, Journal  # noqa: E402
+from dukpt_host.waiting import Waiting  # noqa: E402
+
+# Longer than anything here takes.
+SECONDS = 60.0
+# A frame without contents, and its refusal.
+FRAME, ANSWER = PROBE, b"\0\x0d\1" + MALFORMED
+# By then a client is in, and its frame is read.
+TURNS = 30
+WORDS = ("host.toml", "--component", "lmk.1", "--component", "lmk.2", "--postgres", "postgresql:///none")
+TEST_KEYS = ("bank.toml", "--test-keys", "--postgres", "postgresql:///none")
+
+
+def exchange() -> Exchange:
+    waiting, metrics, log = Waiting(), Metrics(), Log()
+    return Exchange(waiting, Connections(Limits(), waiting, metrics, log), metrics, log, "unknown")
+
+
+# A client that comes as the host is told to end
+
+
+class AtEnd:
+    """In the place of a service: it answers what was read when it is told to end."""
+
+    wrong, right, silent, is_open, status, has_ended = "", "serving", "", True, 0, False
+
+    def __init__(self, all_of: Exchange) -> None:
+        self.exchange = all_of
+        self.settled, self.stopping = asyncio.Event(), asyncio.Event()
+        self.settled.set()
+
+    def stop(self) -> None:
+        self.stopping.set()
+        self.exchange.stop()
+
+    def give(self, frames: Sequence[bytes]) -> None:
+        self.answers = [ANSWER] * len(frames)
+
+    async def take(self) -> list[bytes]:
+        return self.answers
+
+    async def run(self) -> None:
+        await self.stopping.wait()
+        await self.exchange.serve(self)
+
+    def collect(self) -> Iterator[Any]:
+        return iter(())
+
+
+def standing_in(_: object, connections: Connections, metrics: Metrics, log: Log) -> AtEnd:
+    return AtEnd(Exchange(connections.waiting, connections, metrics, log, "unknown"))
+
+
+class Telling(Host):
+    """It is told to end so many turns of its loop behind the first client."""
+
+    turns = 0
+
+    async def run(self) -> int:
+        meet, loop = self.door.meet, asyncio.get_running_loop()
+
+        def later(left: int) -> None:
+            if left:
+                loop.call_soon(later, left - 1)
+            else:
+                self.stop()
+
+        def meeting(taken: socket.socket, peer: str) -> None:
+            meet(taken, peer)
+            later(self.turns)
+
+        setattr(self.door, "meet", meeting)
+        return await super().run()
+
+
+async def told_to_end(turns: int) -> str:
+    """How many frames were read of a client that had sent one, how many answers it has, the status."""
+    host = Telling(arguments.read((*WORDS, "--listen", "127.0.0.1:0")), Log())
+    host.turns = turns
+    with socket.create_connection(host.sockets[0].getsockname(), SECONDS) as client:
+        client.sendall(FRAME)
+        status = await asyncio.wait_for(host.run(), SECONDS)
+        try:
+            read = client.recv(100)
+        except ConnectionResetError:
+            read = b""
+    return f"{host.metrics.frames} read, {read.count(ANSWER)} answered, status {status}"
+
+
+def entering() -> Iterator[str]:
+    """Each thing that comes of it, over all turns in which it may be told."""
+    setattr(dukpt_host.host, "service_of", standing_in)
+    for loop in (None, uvloop.new_event_loop):
+        for turns in range(TURNS):
+            with asyncio.Runner(loop_factory=loop) as runner:
+                yield runner.run(told_to_end(turns))
+
+
+# A connection to the database that ends as soon as it is open
+
+
+class Ended:
+    def add_log_listener(self, _: object) -> None:
+        raise asyncpg.InterfaceError("connection is closed")
+
+    def terminate(self) -> None:
+        pass
+
+
+class Recording:
+    """In the place of a module."""
+
+    closed = 0
+
+    def close(self) -> None:
+        self.closed += 1
+
+
+async def lanes() -> str:
+    """How often a host opens one, that goes on until it is told to end behind the third; and how often it
+    closes its module."""
+    module, opened = Recording(), list[object]()
+
+    async def open_ready(*_: object) -> Ended:
+        opened.append(None)
+        if len(opened) == 3:
+            it.stop()
+        return Ended()
+
+    async def standbys(*_: object) -> int:
+        return 1
+
+    setattr(book, "open_ready", open_ready)
+    setattr(book, "standbys", standbys)
+    with_all: Any = exchange()
+    it = book.BookService(Database((), True, 1), module, with_all, with_all.metrics, with_all.log)
+    await asyncio.wait_for(it.run(), SECONDS)
+    return f"opened {len(opened)}, closed {module.closed}"
+
+
+# What has keys
+
+
+class Wiped:
+    """What is wiped of keys from now on: how much that is, and how much of it keeps a byte; and the
+    modules that are made."""
+
+    def __init__(self) -> None:
+        self.held: list[bytearray] = []
+        self.modules = list[Module]()
+        wipe = components.wipe
+
+        def wiping(it: bytearray) -> None:
+            wipe(it)
+            self.held.append(it)
+
+        def making(*given: Any) -> Module:
+            self.modules.append(Module(*given))
+            return self.modules[-1]
+
+        for module in (components, keys):
+            setattr(module, "wipe", wiping)
+        setattr(keys, "Module", making)
+
+    def told(self, name: str) -> str:
+        held, modules = self.held, self.modules
+        self.held, self.modules = [], []
+        return (f"{name}: {len(held)} wiped, {sum(map(any, held))} of them not; "
+                f"{sum('closed' in repr(it) for it in modules)} of {len(modules)} modules closed")
+
+
+def wiped() -> Iterator[str]:
+    seen, settings = Wiped(), arguments.read(WORDS)
+    keys.module_of(settings)
+    yield seen.told("a module")
+    keys.module_of(arguments.read(TEST_KEYS))
+    yield seen.told("a module of test keys")
+    text = keys.clear_text(settings)
+    yield seen.told("a text")
+    of_all = exchange()
+    below = Service(text, Journal("none", Path("journal")), of_all, of_all.metrics, of_all.log)
+    below.stop()
+    asyncio.run(below.run())
+    yield f"the text behind its host: {sum(map(bool, text))} bytes"
+    config = Path("host.toml")
+    config.write_text(config.read_text().replace('zone = "', 'zone = "B'))
+    for make in (keys.module_of, keys.clear_text):
+        try:
+            make(settings)
+        except Refused as why:
+            yield seen.told(str(why))
+
+
+WHAT: dict[str, Callable[[], Iterator[str]]] = {
+    "entering": entering, "lanes": lambda: iter([asyncio.run(lanes())]), "wiped": wiped}
+
+
+def main(words: Sequence[str]) -> None:
+    for line in WHAT[words[0]]():
+        print(line)
+
+
+if __name__ == "__main__":
+    main(sys.argv[1:])
