@@ -82,7 +82,8 @@ pub fn kept()
 }
 
 /// All accepted replies to one number are equal, byte for byte, whatever hosts give them and whenever;
-/// and so are all replies to reversals that use one number. No number has replies of both kinds.
+/// and so are all replies to reversals that use one number. No number has replies of both kinds. Each
+/// entry that the book kept at first used a new number, as in a new book.
 pub fn equal_replies()
     ensures equal { (hosts : Hosts) (book : Book) (events : List Event) → IsHistory hosts book events
         → UseNewNumbers book.first
@@ -197,10 +198,11 @@ pub fn settled_in_turn()
 /// that were told, and so are the totals.
 ///
 /// The till has any lifetime of calls, stops and failed stores, and the hosts have any history. The
-/// premises are that the book keeps nothing under that initial key serial number at first, that each
-/// frame under it which hosts found authentic was sent by the till, and that each frame which the till
-/// took was given by a host. Nobody else has the keys, so the MACs see to the last two; where till and
-/// hosts have different keys, the hosts find no frame of it authentic, and it takes none. No order is
+/// premises are that each entry that the book keeps at first used a new number, and none is under that
+/// initial key serial number; that each frame under it which hosts found authentic was sent by the till;
+/// and that each frame which the till took was given by a host. Nobody else has the keys, so the MACs see
+/// to the last two; where till and hosts have different keys, the hosts find no frame of it authentic,
+/// and it takes none. No order is
 /// asked for between what happens at the till and at the hosts, and nothing of other tills: so it is of
 /// each till of a world of many.
 pub fn merchants_agree<C: Cell, J: Cell>()
