@@ -41,7 +41,8 @@ def settled_by(book: Book, group: Group) -> list[Settled]:
 
 def difference(worlds: Sequence[Sequence[Group]], model: Callable[[], Book] = Book) -> Optional[str]:
     """The first difference between the proved book and the model, a new book for each world."""
-    lines, wanted = [], []
+    lines: list[str] = []
+    wanted: list[list[Settled]] = []
     for world in worlds:
         book = model()
         for group in world:
@@ -55,10 +56,11 @@ def difference(worlds: Sequence[Sequence[Group]], model: Callable[[], Book] = Bo
         ended = program.run(given=given)
         if (ended.status, ended.faults) != (0, b""):
             return f"{program.name}: {ended}"
-        found = [[settled_of(it) for it in line.split(",") if it] for line in ended.output.decode().splitlines()]
-        for line, one, other in zip(lines, found, wanted):
-            if one != other:
-                return f"{program.name} settles {line} as {one}, and not {other}"
-        if len(found) != len(lines):
-            return f"{program.name} settles {len(found)} groups of {len(lines)}"
+        written = ended.output.decode().splitlines()
+        if len(written) != len(lines):
+            return f"{program.name} settles {len(written)} groups of {len(lines)}"
+        for line, text, other in zip(lines, written, wanted):
+            found = [settled_of(it) for it in text.split(",") if it]
+            if found != other:
+                return f"{program.name} settles {line} as {found}, and not {other}"
     return None
