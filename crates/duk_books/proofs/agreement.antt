@@ -1,7 +1,5 @@
 -- That the merchants' book and that of the host agree.
-pub mod OwnersStay
 pub mod Facts
-pub mod Terminals
 pub mod Registers
 pub mod Tills
 pub mod QuietCalls

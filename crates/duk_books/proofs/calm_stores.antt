@@ -1,5 +1,4 @@
 -- Sound stores report no damage, and calm stores do not fail.
-pub mod StoreFaults
 pub mod TillCalls
 pub mod HostCalls
 pub mod KnownStores

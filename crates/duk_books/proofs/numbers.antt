@@ -1,12 +1,9 @@
 -- That no two frames of tills use one number, that no used key stays, and under which keys tills send.
-pub mod Safe
-pub mod TerminalCalls
 pub mod BookBodies
 pub mod AllSafe
 pub mod EachMoveSafe
 pub mod SentByOwner
 pub mod NoUsedKey
-pub mod InitialKeys
 pub mod OwnKey
 pub mod ReplyKeys
 pub mod OpenedTills

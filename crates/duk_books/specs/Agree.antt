@@ -9,10 +9,11 @@ use Rattle.duk_till.specs.declared.last.Last.{Last}
 use Rattle.duk_till.specs.declared.last.Last.TheVariants.{Open}
 use Rattle.duk_till.specs.declared.last.Payment.{Payment}
 use Rattle.duk_till.specs.declared.state.TillState.TheVariants.{Running}
-use Rattle.duk_books.specs.Books.{BooksOf, IsAt, Meanings}
-use Rattle.duk_books.specs.Owner.{IsOwner}
+use Rattle.duk_books.specs.Books.{BooksOf, Meanings}
+use Rattle.duk_stations.specs.Places.{IsAt}
+use Rattle.duk_stations.specs.Owner.{IsOwner}
 use Rattle.duk_books.specs.Sales.{sale_of}
-use Rattle.duk_books.specs.declared.owner.Owner.{Owner}
+use Rattle.duk_stations.specs.declared.owner.Owner.{Owner}
 use Rattle.duk_books.specs.declared.sales.Sale.{Sale}
 
 -- a payment of a till stands: it does at the host, with its amount, and the till owns its initial key

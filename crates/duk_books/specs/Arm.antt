@@ -6,7 +6,8 @@ use Rattle.duk_journal_host.specs.Restart.{PreservesEnds}
 use Rattle.duk_store.specs.StoreState.{StaysButCalm}
 use Rattle.duk_till.specs.Lifetime.{ArmBook, ArmTerminal, IsCalled}
 use Rattle.duk_till.specs.Till.{TillOf}
-use Rattle.duk_books.specs.Books.{BooksOf, ChangesTill, HasNone, Meanings}
+use Rattle.duk_books.specs.Books.{BooksOf, ChangesTill, Meanings}
+use Rattle.duk_stations.specs.Places.{HasNone}
 use Rattle.duk_books.specs.declared.event.End.{End}
 use Rattle.duk_books.specs.declared.event.End.TheVariants as end
 use Rattle.duk_books.specs.declared.outcome.Outcome.{Outcome}

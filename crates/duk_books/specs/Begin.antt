@@ -4,7 +4,8 @@ use Rattle.duk_term.specs.declared.answer.Begun.{Begun}
 use Rattle.duk_term.specs.declared.purchase.Purchase.{Purchase}
 use Rattle.duk_till.specs.Lifetime.{Begin, IsCalled}
 use Rattle.duk_tree.specs.Serial.{Serial}
-use Rattle.duk_books.specs.Books.{BooksOf, ChangesOnly, ChangesTill, HasNone, Meanings}
+use Rattle.duk_books.specs.Books.{BooksOf, ChangesTill, Meanings}
+use Rattle.duk_stations.specs.Places.{ChangesOnly, HasNone}
 use Rattle.duk_books.specs.declared.outcome.Outcome.{Outcome}
 use Rattle.duk_books.specs.declared.outcome.Outcome.TheVariants as outcome
 

@@ -1,14 +1,15 @@
 -- Tills, host, network and the merchants' book together: this project's own.
-use Rattle.std.specs.Prelude.{◌≡◌, ◌+◌, ◌⊎◌, ◌<◌, ℕ, List, Some, length, slice_get, slice_set}
+use Rattle.std.specs.Prelude.{◌≡◌, ℕ, List}
 use Rattle.arrayvec.specs.ArrayVec.{ArrayVec}
 use Rattle.duk_host.specs.Judgement.{Decision}
 use Rattle.duk_journal.specs.Journal.{JournalMeaning}
 use Rattle.duk_journal_host.specs.Host.{HostMeaning, HostOf, host_meaning_of}
+use Rattle.duk_stations.specs.Places.{ChangesOnly, HasNone}
 use Rattle.duk_store.specs.Cell.{CellMeaning}
 use Rattle.duk_till.specs.Till.{TillOf}
 use Rattle.duk_books.specs.declared.outcome.Outcome.{Outcome}
 use Rattle.duk_books.specs.declared.outcome.Outcome.TheVariants.{NoSuchTill}
-use Rattle.duk_books.specs.declared.owner.Owner.{Owner}
+use Rattle.duk_stations.specs.declared.owner.Owner.{Owner}
 use Rattle.duk_books.specs.declared.sales.Sale.{Sale}
 
 -- a frame as it was sent, whose bytes are its items
@@ -38,33 +39,6 @@ abbrev pub meanings_of : {C B J I : Type 0} → CellMeaning C → CellMeaning B 
     → (I → Decision) → Meanings C B J I
 meanings_of cell book journal decides =
     record { cell = cell; book = book; host = host_meaning_of journal decides }
-
--- a thing of this number, counted from 1, stands at a place of a list
-pub record IsAt {A : Type 0} (things : List A) (number : ℕ) (thing : A) : Type 0 where
-  pub place : ℕ
-  pub number_is : number ≡ place + 1
-  pub thing_is : slice_get things place ≡ Some thing
-
--- a list has none of this number
-abbrev pub HasNone : {A : Type 0} → List A → ℕ → Type 0
-HasNone things number = (number ≡ 0) ⊎ (length things < number)
-
--- a list has one of this number
-pub record HasOne {A : Type 0} (things : List A) (number : ℕ) : Type 0 where
-  pub place : ℕ
-  pub number_is : number ≡ place + 1
-  pub within : place < length things
-
--- the till of a number changes in this way, and the others stay as they are
-pub record ChangesOnly
-    {A : Type 0} (t : ℕ) (change : A → A → Type 0) (old new : List A) : Type 0 where
-  pub place : ℕ
-  pub before : A
-  pub after : A
-  pub number_is : t ≡ place + 1
-  pub was : slice_get old place ≡ Some before
-  pub changed : change before after
-  pub others : new ≡ slice_set old place after
 
 -- a till changes in this way, and all else stays
 pub record ChangesTill

@@ -4,12 +4,12 @@ use Rattle.duk_host.specs.declared.fault.HostFault.{HostFault}
 use Rattle.duk_host.specs.declared.fault.HostFault.TheVariants as host_fault
 use Rattle.duk_store.specs.declared.fault.StoreFault.{StoreFault}
 use Rattle.duk_store.specs.declared.fault.StoreFault.TheVariants.{Damaged, Device}
-use Rattle.duk_term.specs.declared.fault.TermFault.{TermFault}
-use Rattle.duk_term.specs.declared.fault.TermFault.TheVariants as term_fault
+use Rattle.duk_stations.specs.Calm.{IsCellFault}
 use Rattle.duk_till.specs.Till.{TillOf}
 use Rattle.duk_till.specs.declared.fault.TillFault.{TillFault}
 use Rattle.duk_till.specs.declared.fault.TillFault.TheVariants as till_fault
-use Rattle.duk_books.specs.Books.{BooksOf, HasOne, IsAt, Meanings}
+use Rattle.duk_books.specs.Books.{BooksOf, Meanings}
+use Rattle.duk_stations.specs.Places.{HasOne, IsAt}
 use Rattle.duk_books.specs.declared.event.End.{End}
 use Rattle.duk_books.specs.declared.event.End.TheVariants as end
 use Rattle.duk_books.specs.declared.event.Event.{Event}
@@ -37,11 +37,6 @@ IsCalmAt m books (end.Terminal t) =
     (till : TillOf _ _) → IsAt books.tills t till → (m.cell.state_of till.terminal.cell).calm
 IsCalmAt m books (end.Book t) =
     (till : TillOf _ _) → IsAt books.tills t till → (m.book.state_of till.book).calm
-
--- a terminal refused since its cell failed so
-abbrev pub IsCellFault : TermFault → StoreFault → Type 0
-IsCellFault (term_fault.Store why) fault = why ≡ fault
-IsCellFault _ fault = ⊥
 
 -- a till refused since its terminal's cell failed so
 abbrev pub IsTerminalFault : TillFault → StoreFault → Type 0

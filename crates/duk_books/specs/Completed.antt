@@ -16,7 +16,8 @@ use Rattle.duk_till.specs.declared.last.Last.TheVariants.{Open, Approved, Declin
 use Rattle.duk_till.specs.declared.state.TillState.TheVariants.{Running}
 use Rattle.duk_tree.specs.Serial.{Serial}
 use Rattle.duk_books.specs.AcceptedOnce.{HasReply, HasReversalReply}
-use Rattle.duk_books.specs.Books.{BooksOf, Frame, IsAt, Meanings}
+use Rattle.duk_books.specs.Books.{BooksOf, Frame, Meanings}
+use Rattle.duk_stations.specs.Places.{IsAt}
 use Rattle.duk_books.specs.Numbers.{HasRequestNumber}
 use Rattle.duk_books.specs.Run.{Run}
 use Rattle.duk_books.specs.Step.{Step}

@@ -11,7 +11,8 @@ use Rattle.duk_till.specs.Lifetime.{IsCalled, Reply, ReversalReply as ReversalRe
 use Rattle.duk_till.specs.Reply.{TillReplyRefused}
 use Rattle.duk_till.specs.Till.{TillOf, approved_in}
 use Rattle.duk_till.specs.declared.fault.TillFault.TheVariants as fault
-use Rattle.duk_books.specs.Books.{BooksOf, ChangesOnly, FindsNoTill, Frame, HasNone, HasOne, IsAt, Meanings}
+use Rattle.duk_books.specs.Books.{BooksOf, FindsNoTill, Frame, Meanings}
+use Rattle.duk_stations.specs.Places.{ChangesOnly, HasNone, HasOne, IsAt}
 use Rattle.duk_books.specs.Frames.{IsRefusalFrame, IsReversalReplyFrame}
 use Rattle.duk_books.specs.Sales.{TakesSale}
 use Rattle.duk_books.specs.declared.outcome.Outcome.{Outcome}

@@ -1,5 +1,4 @@
 pub mod Books
-pub mod Owner
 pub mod Sales
 pub mod Frames
 pub mod Load

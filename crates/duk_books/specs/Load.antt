@@ -10,11 +10,12 @@ use Rattle.duk_till.specs.Lifetime.{IsCalled, Load}
 use Rattle.duk_till.specs.Till.{TillOf}
 use Rattle.duk_till.specs.declared.fault.TillFault.TheVariants as till_fault
 use Rattle.duk_tree.specs.Serial.{iksn_prefix_of}
-use Rattle.duk_books.specs.Books.{BooksOf, ChangesOnly, FindsNoTill, HasOne, Meanings}
-use Rattle.duk_books.specs.Owner.{BecomesOwner, IsElsewhere}
+use Rattle.duk_books.specs.Books.{BooksOf, FindsNoTill, Meanings}
+use Rattle.duk_stations.specs.Places.{ChangesOnly, HasOne}
+use Rattle.duk_stations.specs.Owner.{BecomesOwner, IsElsewhere}
 use Rattle.duk_books.specs.declared.outcome.Outcome.{Outcome}
 use Rattle.duk_books.specs.declared.outcome.Outcome.TheVariants as came
-use Rattle.duk_books.specs.declared.owner.Owner.{Owner}
+use Rattle.duk_stations.specs.declared.owner.Owner.{Owner}
 
 -- the till is there, and no other one owns the initial key serial number
 pub record MayLoad {C B J I : Type 0} (old : BooksOf C B J I) (t iksn : ℕ) : Type 0 where

@@ -8,10 +8,10 @@ use Rattle.duk_reversal.specs.declared.reversal.Reversal as reversal_frame
 use Rattle.duk_tree.specs.Path.{IsUsable}
 use Rattle.duk_tree.specs.Serial.{Serial}
 use Rattle.duk_books.specs.Books.{Frame}
-use Rattle.duk_books.specs.Owner.{IsOwner}
+use Rattle.duk_stations.specs.Owner.{IsOwner}
 use Rattle.duk_books.specs.declared.outcome.Outcome.{Outcome}
 use Rattle.duk_books.specs.declared.outcome.Outcome.TheVariants as outcome
-use Rattle.duk_books.specs.declared.owner.Owner.{Owner}
+use Rattle.duk_stations.specs.declared.owner.Owner.{Owner}
 
 -- the number of a payment request: the key serial number in its frame
 pub record HasRequestNumber (frame : Frame) (ksn : Serial) : Type 0 where

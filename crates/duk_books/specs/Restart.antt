@@ -7,7 +7,8 @@ use Rattle.duk_term.specs.Terminal.{next_of}
 use Rattle.duk_store.specs.Cell.{CellMeaning}
 use Rattle.duk_till.specs.Lifetime.{IsCalled, Restart}
 use Rattle.duk_till.specs.Till.{TillOf, approved_in}
-use Rattle.duk_books.specs.Books.{BooksOf, ChangesOnly, FindsNoTill, Meanings}
+use Rattle.duk_books.specs.Books.{BooksOf, FindsNoTill, Meanings}
+use Rattle.duk_stations.specs.Places.{ChangesOnly}
 use Rattle.duk_books.specs.Sales.{TakesSale}
 use Rattle.duk_books.specs.declared.outcome.Outcome.{Outcome}
 use Rattle.duk_books.specs.declared.outcome.Outcome.TheVariants as outcome

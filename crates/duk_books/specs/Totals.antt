@@ -8,8 +8,9 @@ use Rattle.duk_till.specs.declared.last.Last.{Last}
 use Rattle.duk_till.specs.declared.last.Last.TheVariants.{Open}
 use Rattle.duk_till.specs.declared.state.TillState.TheVariants.{Running}
 use Rattle.duk_books.specs.Agree.{AreEntriesOf}
-use Rattle.duk_books.specs.Books.{BooksOf, IsAt, Meanings}
-use Rattle.duk_books.specs.Owner.{Owns}
+use Rattle.duk_books.specs.Books.{BooksOf, Meanings}
+use Rattle.duk_stations.specs.Places.{IsAt}
+use Rattle.duk_stations.specs.Owner.{Owns}
 use Rattle.duk_books.specs.declared.sales.Sale.{Sale}
 
 -- a sale of this till, under this initial key serial number

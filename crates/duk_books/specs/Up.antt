@@ -6,7 +6,8 @@ use Rattle.duk_host.specs.declared.fault.HostFault.TheVariants.{NoMemory}
 use Rattle.duk_journal_host.specs.Group.{AnswersFirst, AnswersFrames, GroupRefused}
 use Rattle.duk_reversal.specs.Reply.{IsReversalReply}
 use Rattle.duk_reversal.specs.declared.reply.ReversalReply.{ReversalReply}
-use Rattle.duk_books.specs.Books.{BooksOf, Frame, HasNone, IsAt, Meanings}
+use Rattle.duk_books.specs.Books.{BooksOf, Frame, Meanings}
+use Rattle.duk_stations.specs.Places.{HasNone, IsAt}
 use Rattle.duk_books.specs.declared.outcome.Outcome.{Outcome}
 use Rattle.duk_books.specs.declared.outcome.Outcome.TheVariants as outcome
 

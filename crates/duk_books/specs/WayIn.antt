@@ -24,7 +24,8 @@ use Rattle.duk_till.specs.Till.{HasTwoAfter, IsAtRest, TillOf}
 use Rattle.duk_till.specs.declared.last.Payment.{Payment}
 use Rattle.duk_till.specs.declared.state.TillState.TheVariants.{Running}
 use Rattle.duk_tree.specs.Serial.{Serial}
-use Rattle.duk_books.specs.Books.{BooksOf, IsAt, Meanings}
+use Rattle.duk_books.specs.Books.{BooksOf, Meanings}
+use Rattle.duk_stations.specs.Places.{IsAt}
 use Rattle.duk_books.specs.Calm.{IsCalmAt}
 use Rattle.duk_books.specs.Reached.{Reached}
 use Rattle.duk_books.specs.Run.{Run}

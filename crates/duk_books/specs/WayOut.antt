@@ -18,7 +18,8 @@ use Rattle.duk_till.specs.declared.last.Last.TheVariants.{Undone}
 use Rattle.duk_till.specs.declared.state.TillState.TheVariants.{Running}
 use Rattle.duk_tree.specs.Next.{spent_counter}
 use Rattle.duk_tree.specs.Serial.{Serial}
-use Rattle.duk_books.specs.Books.{BooksOf, IsAt, Meanings}
+use Rattle.duk_books.specs.Books.{BooksOf, Meanings}
+use Rattle.duk_stations.specs.Places.{IsAt}
 use Rattle.duk_books.specs.Calm.{HasSoundStores, IsCalmAt, ReportsFault}
 use Rattle.duk_books.specs.Completed.{MayBeOpen}
 use Rattle.duk_books.specs.NoUsedKey.{InRegistersAndImages}

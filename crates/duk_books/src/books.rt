@@ -13,13 +13,13 @@ ghost use Rattle.duk_books.specs.OwnKeyOfReplies.{IsOwnKeyReply};
 ghost use Rattle.duk_books.specs.OwnKeyOfRequests.{IsOwnKeySent};
 
 use crate::laws;
-use crate::owner::Owner;
 use crate::sales::Sale;
 use crate::system::System;
 use duk_frame::Frame;
 use duk_host::Issuer;
 use duk_journal::Journal;
 use duk_journal_host::JournalHost;
+use duk_stations::Owner;
 use duk_store::Cell;
 use duk_tdes::Key;
 use duk_till::Till;

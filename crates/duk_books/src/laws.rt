@@ -28,7 +28,7 @@ ghost use Rattle.duk_books.specs.Images.{FindLast, FindVersion2};
 ghost use Rattle.duk_hsm.specs.InitialKey.{IsInitialKeyOf};
 ghost use Rattle.duk_books.specs.NoUsedKey.{InEachTill, NoUsedKey, OwnsAboveUsed};
 ghost use Rattle.duk_books.specs.Numbers.{AreUsedOwned, IsSentByOwner, UsedOnce};
-ghost use Rattle.duk_books.specs.Owner.{IsOwner, Owns};
+ghost use Rattle.duk_stations.specs.Owner.{IsOwner, Owns};
 ghost use Rattle.duk_books.specs.OwnKeyOfReplies.{IsOwnKeyReply, IsRefusedAsUsedOrFull};
 ghost use Rattle.duk_books.specs.OwnKeyOfRequests.{IsOwnKeySent};
 ghost use Rattle.duk_books.specs.Reached.{Reached};
@@ -37,6 +37,7 @@ ghost use Rattle.duk_books.specs.Sent.{SentByOwners};
 ghost use Rattle.duk_books.specs.StolenTill.{HasImage, HasMemory, ShowsRegisters, StandAlike, TerminalsStandAlike, WaitsWithItsReplyKey};
 ghost use Rattle.duk_books.specs.Told.{HasWhatWasTold};
 ghost use Rattle.duk_books.specs.Totals.{TotalsAgree};
+ghost use Rattle.duk_books.specs.inner.Known.{BookLaws};
 ghost use Rattle.duk_books.specs.WayIn.{IsOverAt, IsPaymentRun, KeepsPayment, OthersStay, sales_with, told_with};
 ghost use Rattle.duk_books.specs.WayOut.{HasWayOut, IsAtRestAt, IsOpenAt, IsUndoneAt, OpenNumbersAreUsed, ReportsNoWear, way_out_of};
 ghost use Rattle.duk_books.specs.declared.event.End.{End};
@@ -73,18 +74,7 @@ pub fn agreement<C: Cell, B: Cell, J: Journal, I: Issuer>()
         → CallLeads m old outcomes new → HasWhatWasTold old.sales outcomes new.sales }
 {
     duk_journal::laws::totals();
-    duk_till::laws::one_reading();
-    duk_term::laws::requests::<C>();
-    duk_term::laws::reversals::<C>();
-    duk_term::laws::found_again();
-    duk_regs::laws::transactions();
-    duk_tree::laws::bits();
-    duk_frame::laws::one_reading();
-    duk_frame::laws::payments();
-    duk_reversal::laws::one_reading();
-    duk_reversal::laws::apart_from_payments();
-    duk_journal_host::laws::new_numbers();
-    duk_journal_host::laws::one_reply();
+    known::<C, B, J, I>();
 }
 
 /// So it is where all stand on disks: of each till both cells, and of the host its journal.
@@ -126,14 +116,7 @@ pub fn numbers<C: Cell, B: Cell, J: Journal, I: Issuer>()
         → CallLeads m old outcomes new → All (IsSentByOwner new.owners) outcomes }
 {
     own_initial_key();
-    duk_term::laws::requests::<C>();
-    duk_term::laws::reversals::<C>();
-    duk_term::laws::found_again();
-    duk_regs::laws::transactions();
-    duk_tree::laws::bits();
-    duk_frame::laws::one_reading();
-    duk_reversal::laws::one_reading();
-    duk_reversal::laws::apart_from_payments();
+    known::<C, B, J, I>();
 }
 
 /// No register of a till's terminal and no image that its cell may find holds the key of a used
@@ -152,14 +135,7 @@ pub fn no_used_key<C: Cell, B: Cell, J: Journal, I: Issuer>()
         (books : BooksOf C B J I) → Reached m books → FindLast m books.tills }
 {
     own_initial_key();
-    duk_term::laws::requests::<C>();
-    duk_term::laws::reversals::<C>();
-    duk_term::laws::found_again();
-    duk_regs::laws::transactions();
-    duk_tree::laws::bits();
-    duk_frame::laws::one_reading();
-    duk_reversal::laws::one_reading();
-    duk_reversal::laws::apart_from_payments();
+    known::<C, B, J, I>();
     duk_tree::laws::frontier();
     duk_regs::laws::uniqueness();
 }
@@ -210,13 +186,9 @@ pub fn own_key_of_requests<C: Cell, B: Cell, J: Journal, I: Issuer>()
         → All (IsOwnKeySent books.host.keys) books.requests }
 {
     no_used_key::<C, B, J, I>();
-    duk_regs::laws::transactions();
     duk_term::laws::requests::<C>();
     duk_term::laws::reversals::<C>();
-    duk_tree::laws::keys();
-    duk_tree::laws::prefixes();
-    duk_pin::laws::eight_bytes();
-    duk_tdes::laws::inverse();
+    duk_stations::laws::keys::<C>();
 }
 
 /// Who owns an initial key serial number owns it alone and for good, and the host's security module
@@ -291,18 +263,7 @@ pub fn completed_by_host<C: Cell, B: Cell, J: Journal, I: Issuer>()
     ensures known_from_host { let m = meanings_of C.meaning B.meaning J.meaning I.decides in
         (books : BooksOf C B J I) → Reached m books → KnowFromHost m books }
 {
-    duk_till::laws::one_reading();
-    duk_term::laws::requests::<C>();
-    duk_term::laws::reversals::<C>();
-    duk_term::laws::found_again();
-    duk_regs::laws::transactions();
-    duk_tree::laws::bits();
-    duk_frame::laws::one_reading();
-    duk_frame::laws::payments();
-    duk_reversal::laws::one_reading();
-    duk_reversal::laws::apart_from_payments();
-    duk_journal_host::laws::new_numbers();
-    duk_journal_host::laws::one_reply();
+    known::<C, B, J, I>();
 }
 
 /// Sound stores stay sound, and none of them is reported as damaged. A store that is calm stays so
@@ -322,18 +283,7 @@ pub fn calm_stores<C: Cell, B: Cell, J: Journal, I: Issuer>()
         → IsCalmAt m old end → CallLeads m old outcomes new → FailsOnceArmed end outcomes }
 {
     no_used_key::<C, B, J, I>();
-    duk_till::laws::one_reading();
-    duk_term::laws::requests::<C>();
-    duk_term::laws::reversals::<C>();
-    duk_term::laws::found_again();
-    duk_regs::laws::transactions();
-    duk_tree::laws::bits();
-    duk_frame::laws::one_reading();
-    duk_frame::laws::payments();
-    duk_reversal::laws::one_reading();
-    duk_reversal::laws::apart_from_payments();
-    duk_journal_host::laws::new_numbers();
-    duk_journal_host::laws::one_reply();
+    known::<C, B, J, I>();
 }
 
 /// Restarts of the host and of tills that are there bring them all up, where all stores are sound
@@ -356,18 +306,7 @@ pub fn calm_restarts<C: Cell, B: Cell, J: Journal, I: Issuer>()
 {
     calm_stores::<C, B, J, I>();
     no_used_key::<C, B, J, I>();
-    duk_till::laws::one_reading();
-    duk_term::laws::requests::<C>();
-    duk_term::laws::reversals::<C>();
-    duk_term::laws::found_again();
-    duk_regs::laws::transactions();
-    duk_tree::laws::bits();
-    duk_frame::laws::one_reading();
-    duk_frame::laws::payments();
-    duk_reversal::laws::one_reading();
-    duk_reversal::laws::apart_from_payments();
-    duk_journal_host::laws::new_numbers();
-    duk_journal_host::laws::one_reply();
+    known::<C, B, J, I>();
 }
 
 /// Each till comes to rest. From all that is reached, where all stores are sound and calm, a till with
@@ -395,20 +334,9 @@ pub fn way_out<C: Cell, B: Cell, J: Journal, I: Issuer>()
     stolen_till::<C, B, J, I>();
     own_key_of_requests::<C, B, J, I>();
     no_used_key::<C, B, J, I>();
-    duk_till::laws::one_reading();
-    duk_term::laws::requests::<C>();
-    duk_term::laws::reversals::<C>();
-    duk_term::laws::found_again();
-    duk_regs::laws::transactions();
-    duk_tree::laws::bits();
     duk_tree::laws::prefixes();
-    duk_frame::laws::one_reading();
-    duk_frame::laws::payments();
-    duk_reversal::laws::one_reading();
-    duk_reversal::laws::apart_from_payments();
     duk_reversal::laws::authentic();
-    duk_journal_host::laws::new_numbers();
-    duk_journal_host::laws::one_reply();
+    known::<C, B, J, I>();
 }
 
 /// From rest a payment comes through, with the issuer's code. From all that is reached, where a till is
@@ -446,17 +374,20 @@ pub fn way_in<C: Cell, B: Cell, J: Journal, I: Issuer>()
         → OthersStay old.tills t new.tills }
 {
     no_used_key::<C, B, J, I>();
+    duk_pin::laws::one_pin();
+    duk_stations::laws::keys::<C>();
+    known::<C, B, J, I>();
+}
+
+/// What most laws rest on: what the laws of the crates below say of registers, frames, bodies and the
+/// host's answers.
+fn known<C: Cell, B: Cell, J: Journal, I: Issuer>()
+    ensures { BookLaws (meanings_of C.meaning B.meaning J.meaning I.decides) }
+{
     duk_till::laws::one_reading();
     duk_term::laws::requests::<C>();
     duk_term::laws::reversals::<C>();
-    duk_term::laws::found_again();
-    duk_regs::laws::transactions();
-    duk_tree::laws::bits();
-    duk_tree::laws::keys();
-    duk_tree::laws::prefixes();
-    duk_pin::laws::eight_bytes();
-    duk_pin::laws::one_pin();
-    duk_tdes::laws::inverse();
+    duk_stations::laws::registers();
     duk_frame::laws::one_reading();
     duk_frame::laws::payments();
     duk_reversal::laws::one_reading();

@@ -13,14 +13,13 @@ mod frames;
 pub mod laws;
 mod outcome;
 mod owner;
-mod places;
 mod runs;
 mod sales;
 mod system;
 
 pub use books::Books;
+pub use duk_stations::Owner;
 pub use event::{End, Event};
 pub use outcome::Outcome;
-pub use owner::Owner;
 pub use runs::{RunFault, run};
 pub use sales::Sale;

@@ -5,7 +5,7 @@ ghost use Rattle.std.specs.Vec.{vec_capacity, vec_len};
 ghost use Rattle.duk_till.specs.Till.{approved_in};
 ghost use Rattle.duk_books.specs.Sales.{EntersSale, TakesSale};
 
-use crate::places::push_within;
+use duk_stations::push_within;
 use duk_till::{Payment, TillState};
 
 /// A payment that a till has as approved.

@@ -7,12 +7,12 @@
 mod host_events;
 mod till_events;
 
-use crate::owner::Owner;
 use crate::sales::Sale;
 use duk_frame::Frame;
 use duk_host::Issuer;
 use duk_journal::Journal;
 use duk_journal_host::JournalHost;
+use duk_stations::Owner;
 use duk_store::Cell;
 use duk_tdes::Key;
 use duk_till::Till;

@@ -3,5 +3,4 @@ mod used_once
 mod accepted_once
 mod own_key
 mod completed_by_host
-mod no_used_key
 mod calm_stores

@@ -1,3 +1,2 @@
 -- The host derives the terminal's own key for each number.
-pub mod IssuedForTerminal
 pub mod OwnKey

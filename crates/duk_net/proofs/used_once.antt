@@ -1,7 +1,4 @@
--- No two transactions use one number.
-pub mod OwnersStay
-pub mod AboveUsed
-pub mod TerminalStaysAboveUsed
-pub mod LoadStaysAboveUsed
-pub mod BeginStaysAboveUsed
+-- No two transactions use one number, and no register holds a used key.
+pub mod WorldSafe
 pub mod UsedOnce
+pub mod NoUsedKey

@@ -1,7 +1,5 @@
 -- What a move of a world changes, and what holds of every world that is reached.
-pub mod PlacesInLists
 pub mod HostAnswers
 pub mod RunsGoOn
 pub mod StepChanges
 pub mod ReachedByMoves
-pub mod TerminalsAfterwards

@@ -4,7 +4,8 @@ use Rattle.duk_host.specs.Host.{HostOf}
 use Rattle.duk_host.specs.Restart.{PreservesEnds}
 use Rattle.duk_store.specs.StoreState.{StaysButCalm}
 use Rattle.duk_term.specs.Terminal.{TerminalOf}
-use Rattle.duk_net.specs.World.{HasNone, Meanings, ChangesTerminal, WorldOf}
+use Rattle.duk_net.specs.World.{Meanings, ChangesTerminal, WorldOf}
+use Rattle.duk_stations.specs.Places.{HasNone}
 use Rattle.duk_net.specs.declared.event.End.{End}
 use Rattle.duk_net.specs.declared.event.End.TheVariants as end
 use Rattle.duk_net.specs.declared.outcome.Outcome.{Outcome}

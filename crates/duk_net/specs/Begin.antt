@@ -6,7 +6,8 @@ use Rattle.duk_term.specs.Terminal.{TerminalOf}
 use Rattle.duk_term.specs.declared.fault.TermFault.{TermFault}
 use Rattle.duk_term.specs.declared.purchase.Purchase.{Purchase}
 use Rattle.duk_tree.specs.Serial.{Serial}
-use Rattle.duk_net.specs.World.{ChangesOnly, Frame, HasNone, Meanings, ChangesTerminal, WorldOf}
+use Rattle.duk_net.specs.World.{Frame, Meanings, ChangesTerminal, WorldOf}
+use Rattle.duk_stations.specs.Places.{ChangesOnly, HasNone}
 use Rattle.duk_net.specs.declared.outcome.Outcome.{Outcome}
 use Rattle.duk_net.specs.declared.outcome.Outcome.TheVariants as outcome
 

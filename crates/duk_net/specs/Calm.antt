@@ -5,9 +5,9 @@ use Rattle.duk_host.specs.declared.fault.HostFault.TheVariants as host_fault
 use Rattle.duk_store.specs.declared.fault.StoreFault.{StoreFault}
 use Rattle.duk_store.specs.declared.fault.StoreFault.TheVariants.{Damaged, Device}
 use Rattle.duk_term.specs.Terminal.{TerminalOf}
-use Rattle.duk_term.specs.declared.fault.TermFault.{TermFault}
-use Rattle.duk_term.specs.declared.fault.TermFault.TheVariants as term_fault
-use Rattle.duk_net.specs.World.{HasOne, IsAt, Meanings, WorldOf}
+use Rattle.duk_stations.specs.Calm.{IsCellFault}
+use Rattle.duk_net.specs.World.{Meanings, WorldOf}
+use Rattle.duk_stations.specs.Places.{HasOne, IsAt}
 use Rattle.duk_net.specs.declared.event.End.{End}
 use Rattle.duk_net.specs.declared.event.End.TheVariants as end
 use Rattle.duk_net.specs.declared.event.Event.{Event}
@@ -31,11 +31,6 @@ IsCalmAt m world end.Host = (m.host.log.state_of world.host.log).calm
 IsCalmAt m world (end.Term t) =
     (terminal : TerminalOf _) → IsAt world.terminals t terminal
     → (m.cell.state_of terminal.cell).calm
-
--- a terminal refused since its cell failed so
-abbrev pub IsCellFault : TermFault → StoreFault → Type 0
-IsCellFault (term_fault.Store why) fault = why ≡ fault
-IsCellFault _ fault = ⊥
 
 -- the host refused since its log failed so
 abbrev pub IsLogFault : HostFault → StoreFault → Type 0

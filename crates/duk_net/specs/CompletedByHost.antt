@@ -8,7 +8,8 @@ use Rattle.duk_tree.specs.Serial.{Serial}
 use Rattle.duk_net.specs.AcceptedOnce.{HasReply}
 use Rattle.duk_net.specs.Run.{Run}
 use Rattle.duk_net.specs.Step.{Step}
-use Rattle.duk_net.specs.World.{Frame, IsAt, Meanings, WorldOf}
+use Rattle.duk_net.specs.World.{Frame, Meanings, WorldOf}
+use Rattle.duk_stations.specs.Places.{IsAt}
 use Rattle.duk_net.specs.declared.event.Event.{Event}
 use Rattle.duk_net.specs.declared.outcome.Outcome.{Outcome}
 use Rattle.duk_net.specs.declared.outcome.Outcome.TheVariants as outcome

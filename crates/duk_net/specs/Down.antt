@@ -6,7 +6,8 @@ use Rattle.duk_term.specs.declared.answer.Answer.{Answer}
 use Rattle.duk_term.specs.declared.answer.Answer.TheVariants.{Done, Refused}
 use Rattle.duk_term.specs.declared.state.Pending.{Pending}
 use Rattle.duk_tree.specs.Serial.{Serial}
-use Rattle.duk_net.specs.World.{FindsNoTerminal, Frame, HasOne, HasNone, IsAt, ChangesTerminal, WorldOf}
+use Rattle.duk_net.specs.World.{FindsNoTerminal, Frame, ChangesTerminal, WorldOf}
+use Rattle.duk_stations.specs.Places.{HasOne, HasNone, IsAt}
 use Rattle.duk_net.specs.declared.outcome.Outcome.{Outcome}
 use Rattle.duk_net.specs.declared.outcome.Outcome.TheVariants as came
 

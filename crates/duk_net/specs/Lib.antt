@@ -1,4 +1,3 @@
-pub mod Owner
 pub mod World
 pub mod First
 pub mod Load

@@ -8,9 +8,10 @@ use Rattle.duk_store.specs.Cell.{CellMeaning}
 use Rattle.duk_term.specs.Load.{IsTerminalLoaded, LoadRefused, Loading, loading_of}
 use Rattle.duk_term.specs.Terminal.{TerminalOf}
 use Rattle.duk_term.specs.declared.fault.TermFault.TheVariants.{Store}
-use Rattle.duk_net.specs.Owner.{BecomesOwner, IsElsewhere}
-use Rattle.duk_net.specs.World.{ChangesOnly, FindsNoTerminal, HasOne, Meanings, WorldOf}
-use Rattle.duk_net.specs.declared.owner.Owner.{Owner}
+use Rattle.duk_stations.specs.Owner.{BecomesOwner, IsElsewhere}
+use Rattle.duk_net.specs.World.{FindsNoTerminal, Meanings, WorldOf}
+use Rattle.duk_stations.specs.Places.{ChangesOnly, HasOne}
+use Rattle.duk_stations.specs.declared.owner.Owner.{Owner}
 use Rattle.duk_net.specs.declared.outcome.Outcome.{Outcome}
 use Rattle.duk_net.specs.declared.outcome.Outcome.TheVariants as came
 

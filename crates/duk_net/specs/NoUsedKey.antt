@@ -15,9 +15,10 @@ use Rattle.duk_tree.specs.Path.{IsUsable}
 use Rattle.duk_tree.specs.Serial.{Serial}
 use Rattle.duk_hsm.specs.InitialKey.{IsInitialKeyOf}
 use Rattle.duk_net.specs.UsedOnce.{IsUsedNumber}
-use Rattle.duk_net.specs.Owner.{IsOwner, Owns}
-use Rattle.duk_net.specs.World.{Frame, IsAt, Meanings}
-use Rattle.duk_net.specs.declared.owner.Owner.{Owner}
+use Rattle.duk_stations.specs.Owner.{IsOwner, Owns}
+use Rattle.duk_net.specs.World.{Frame, Meanings}
+use Rattle.duk_stations.specs.Places.{IsAt}
+use Rattle.duk_stations.specs.declared.owner.Owner.{Owner}
 
 -- the counter is above every used one under this initial key serial number
 abbrev pub IsAboveUsed : List Frame → ℕ → ℕ → Type 0

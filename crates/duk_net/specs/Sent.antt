@@ -1,7 +1,7 @@
 -- Who owned the number of a request when it was sent: this project's own.
 use Rattle.std.specs.Prelude.{◌≡◌, ◌++◌, ◌∷◌, ℕ, List}
 use Rattle.duk_tree.specs.Serial.{Serial}
-use Rattle.duk_net.specs.Owner.{IsOwner}
+use Rattle.duk_stations.specs.Owner.{IsOwner}
 use Rattle.duk_net.specs.Run.{Run}
 use Rattle.duk_net.specs.Step.{Step}
 use Rattle.duk_net.specs.World.{Meanings, WorldOf}

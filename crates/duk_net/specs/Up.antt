@@ -6,7 +6,8 @@ use Rattle.duk_host.specs.Handle.{AnswersRefusal, AnswersRepeat, AnswersReply, H
 use Rattle.duk_host.specs.declared.fault.HostFault.{HostFault}
 use Rattle.duk_host.specs.declared.fault.HostFault.TheVariants.{NoMemory}
 use Rattle.duk_tree.specs.Serial.{Serial}
-use Rattle.duk_net.specs.World.{Frame, HasNone, IsAt, Meanings, WorldOf}
+use Rattle.duk_net.specs.World.{Frame, Meanings, WorldOf}
+use Rattle.duk_stations.specs.Places.{HasNone, IsAt}
 use Rattle.duk_net.specs.declared.outcome.Outcome.{Outcome}
 use Rattle.duk_net.specs.declared.outcome.Outcome.TheVariants as outcome
 

@@ -1,14 +1,15 @@
 -- Terminals, host and network together: this project's own.
-use Rattle.std.specs.Prelude.{◌≡◌, ◌+◌, ◌⊎◌, ◌<◌, ℕ, List, Some, length, slice_get, slice_set}
+use Rattle.std.specs.Prelude.{◌≡◌, ℕ, List}
 use Rattle.arrayvec.specs.ArrayVec.{ArrayVec}
 use Rattle.duk_host.specs.Host.{HostMeaning, HostOf, host_meaning_of}
 use Rattle.duk_host.specs.Judgement.{Decision}
 use Rattle.duk_store.specs.Cell.{CellMeaning}
+use Rattle.duk_stations.specs.Places.{ChangesOnly, HasNone}
 use Rattle.duk_store.specs.Log.{LogMeaning}
 use Rattle.duk_term.specs.Terminal.{TerminalOf}
 use Rattle.duk_net.specs.declared.outcome.Outcome.{Outcome}
 use Rattle.duk_net.specs.declared.outcome.Outcome.TheVariants.{NoSuchTerminal}
-use Rattle.duk_net.specs.declared.owner.Owner.{Owner}
+use Rattle.duk_stations.specs.declared.owner.Owner.{Owner}
 
 -- a frame as it was sent, whose bytes are its items
 abbrev pub Frame : Type 0
@@ -34,34 +35,6 @@ pub record Meanings (C L I : Type 0) : Type 1 where
 abbrev pub meanings_of : {C L I : Type 0} → CellMeaning C → LogMeaning L → (I → Decision)
     → Meanings C L I
 meanings_of cell log decides = record { cell = cell; host = host_meaning_of log decides }
-
--- a thing of this number, counted from 1, stands at a place of a list
-pub record IsAt {A : Type 0} (things : List A) (number : ℕ) (thing : A) : Type 0 where
-  pub place : ℕ
-  pub number_is : number ≡ place + 1
-  pub thing_is : slice_get things place ≡ Some thing
-
--- a list has none of this number
-abbrev pub HasNone : {A : Type 0} → List A → ℕ → Type 0
-HasNone things number = (number ≡ 0) ⊎ (length things < number)
-
--- a list has one of this number
-pub record HasOne {A : Type 0} (things : List A) (number : ℕ) : Type 0 where
-  pub place : ℕ
-  pub number_is : number ≡ place + 1
-  pub within : place < length things
-
--- the terminal of a number changes in this way, and the others stay as they are
-pub record ChangesOnly
-    {C : Type 0} (t : ℕ) (change : TerminalOf C → TerminalOf C → Type 0)
-    (old new : List (TerminalOf C)) : Type 0 where
-  pub place : ℕ
-  pub before : TerminalOf C
-  pub after : TerminalOf C
-  pub number_is : t ≡ place + 1
-  pub was : slice_get old place ≡ Some before
-  pub changed : change before after
-  pub others : new ≡ slice_set old place after
 
 -- a terminal changes in this way, and all else stays
 pub record ChangesTerminal

@@ -15,7 +15,7 @@ ghost use Rattle.duk_net.specs.declared.outcome.Outcome.{Outcome};
 ghost use Rattle.duk_net.specs.Images.{FindVersion2};
 ghost use Rattle.duk_hsm.specs.InitialKey.{IsInitialKeyOf};
 ghost use Rattle.duk_net.specs.UsedOnce.{AreUsedOwned, IsSentByOwner, UsedOnce};
-ghost use Rattle.duk_net.specs.Owner.{IsOwner, Owns};
+ghost use Rattle.duk_stations.specs.Owner.{IsOwner, Owns};
 ghost use Rattle.duk_net.specs.OwnKey.{IsOwnKeyReply, IsOwnKeyRequest, IsRefusedAsUsedOrFull};
 ghost use Rattle.duk_net.specs.Reached.{CallLeads, Reached};
 ghost use Rattle.duk_net.specs.Run.{Run};
@@ -54,10 +54,8 @@ pub fn used_once<C: Cell, L: UsedLog, I: Issuer>()
 {
     own_initial_key();
     duk_term::laws::requests::<C>();
-    duk_term::laws::found_again();
-    duk_regs::laws::transactions();
+    duk_stations::laws::registers();
     duk_frame::laws::one_reading();
-    duk_tree::laws::bits();
 }
 
 /// No register and no image that a terminal's cell may find holds the key of a used number or of an
@@ -74,10 +72,8 @@ pub fn no_used_key<C: Cell, L: UsedLog, I: Issuer>()
 {
     own_initial_key();
     duk_term::laws::requests::<C>();
-    duk_term::laws::found_again();
-    duk_regs::laws::transactions();
+    duk_stations::laws::registers();
     duk_frame::laws::one_reading();
-    duk_tree::laws::bits();
     duk_tree::laws::frontier();
     duk_regs::laws::uniqueness();
 }
@@ -111,16 +107,12 @@ pub fn own_key<C: Cell, L: UsedLog, I: Issuer>()
         → CallLeads m old outcomes new → All IsRefusedAsUsedOrFull outcomes }
 {
     no_used_key::<C, L, I>();
-    duk_regs::laws::transactions();
     duk_term::laws::requests::<C>();
     duk_host::laws::refusals();
     duk_host::laws::exchanges();
     duk_host::laws::replies();
     duk_frame::laws::one_reading();
-    duk_tree::laws::keys();
-    duk_tree::laws::prefixes();
-    duk_pin::laws::eight_bytes();
-    duk_tdes::laws::inverse();
+    duk_stations::laws::keys::<C>();
 }
 
 /// A terminal completes only with the host's reply to the number that was pending, and each number
@@ -154,10 +146,8 @@ pub fn calm_stores<C: Cell, L: UsedLog, I: Issuer>()
 {
     own_initial_key();
     duk_term::laws::requests::<C>();
-    duk_term::laws::found_again();
-    duk_regs::laws::transactions();
+    duk_stations::laws::registers();
     duk_frame::laws::one_reading();
-    duk_tree::laws::bits();
     duk_host::laws::exchanges();
     duk_host::laws::replies();
 }
@@ -182,10 +172,8 @@ pub fn calm_restarts<C: Cell, L: UsedLog, I: Issuer>()
     calm_stores::<C, L, I>();
     own_initial_key();
     duk_term::laws::requests::<C>();
-    duk_term::laws::found_again();
-    duk_regs::laws::transactions();
+    duk_stations::laws::registers();
     duk_frame::laws::one_reading();
-    duk_tree::laws::bits();
     duk_host::laws::exchanges();
     duk_host::laws::replies();
 }

@@ -10,13 +10,12 @@ mod frames;
 pub mod laws;
 mod outcome;
 mod owner;
-mod places;
 mod runs;
 mod system;
 mod world;
 
+pub use duk_stations::Owner;
 pub use event::{End, Event};
 pub use outcome::Outcome;
-pub use owner::Owner;
 pub use runs::{NetFault, run};
 pub use world::{MemoryWorld, World};

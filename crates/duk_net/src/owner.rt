@@ -1,28 +1,17 @@
-//! Which terminal owns which initial key serial number.
+//! Which terminal becomes the owner of an initial key serial number.
 //!
 //! A load whose store failed records an owner too: the cell may have kept the image, and a restart
 //! may find it. After every other refusal nothing was kept. An owner may ask for its number again,
 //! and its terminal refuses it while it keeps it.
 
-ghost use Rattle.std.specs.Prelude.{◌<◌, ◌↔◌, IsTrue};
+ghost use Rattle.std.specs.Prelude.{◌<◌};
 ghost use Rattle.std.specs.Vec.{vec_capacity, vec_len};
 ghost use Rattle.duk_net.specs.Load.{ChangesOwners};
-ghost use Rattle.duk_net.specs.Owner.{BecomesOwner, IsElsewhere};
 
 use crate::outcome::Outcome;
-use crate::places::push_within;
+use duk_stations::{Owner, add_owner};
 use duk_term::TermFault;
 use duk_tree::Iksn;
-
-/// An initial key serial number, and the terminal that owns it: the one that was loaded with it, or
-/// whose store failed in that load.
-#[derive(Clone, Copy, Debug, PartialEq, Eq)]
-pub struct Owner {
-    /// The initial key serial number.
-    pub iksn: Iksn,
-    /// The terminal, counted from 1.
-    pub t: u32,
-}
 
 /// Records what comes of a load: terminal `t` owns the initial key serial number from then on,
 /// where it was loaded or its store failed.
@@ -38,23 +27,4 @@ pub(crate) fn record_owner(owners: &mut Vec<Owner>, outcome: &Outcome, iksn: Iks
         } => add_owner(owners, iksn, t),
         _ => {}
     }
-}
-
-/// Adds an owner, where there is none yet.
-fn add_owner(owners: &mut Vec<Owner>, iksn: Iksn, t: u32)
-    requires { vec_len owners.old < vec_capacity owners.old }
-    ensures { BecomesOwner owners.old.items iksn t owners.new.items }
-{
-    if !owners.iter().any(|owner| owner.iksn == iksn) {
-        push_within(owners, Owner { iksn, t });
-    }
-}
-
-/// Whether a terminal other than `t` owns an initial key serial number.
-pub(crate) fn is_elsewhere(owners: &[Owner], iksn: Iksn, t: u32) -> bool
-    ensures { IsTrue result ↔ IsElsewhere owners.now iksn t }
-{
-    owners
-        .iter()
-        .any(|owner| owner.iksn == iksn && owner.t != t)
 }

@@ -7,9 +7,9 @@
 mod host_events;
 mod terminal_events;
 
-use crate::owner::Owner;
 use duk_frame::Frame;
 use duk_host::{Host, Issuer};
+use duk_stations::Owner;
 use duk_store::{Cell, UsedLog};
 use duk_tdes::Key;
 use duk_term::Terminal;

@@ -10,10 +10,10 @@ ghost use Rattle.duk_net.specs.NoUsedKey.{NoUsedKey, InEachTerminal, OwnsAboveUs
 ghost use Rattle.duk_net.specs.World.{meanings_of};
 
 use crate::laws;
-use crate::owner::Owner;
 use crate::system::System;
 use duk_frame::Frame;
 use duk_host::{Host, Issuer, TableIssuer};
+use duk_stations::Owner;
 use duk_store::{Cell, MemCell, MemLog, UsedLog};
 use duk_tdes::Key;
 use duk_term::Terminal;

@@ -4,7 +4,8 @@ use Rattle.std.specs.List.{All, slice_set}
 use Rattle.std.proofs.lemmas.List.{length-replicate}
 use Rattle.std.proofs.lemmas.List.Elements.{All-cons, All-get_or, All-head, All-nil, All-push, All-set, All-tail, All-weaker}
 use Rattle.std.proofs.lemmas.Option.{get_or_from_slice_get, slice_get_within}
-use Rattle.duk_books.specs.Books.{BooksOf, ChangesOnly, HasNone, Meanings, meanings_of}
+use Rattle.duk_books.specs.Books.{BooksOf, Meanings, meanings_of}
+use Rattle.duk_stations.specs.Places.{ChangesOnly, HasNone}
 use Rattle.duk_books.specs.First.{IsNewHost, IsNewTill, first_books}
 use Rattle.duk_books.specs.Reached.{Reached}
 use Rattle.duk_books.specs.Restart.{RestartsHost, TakesRestart}

@@ -12,7 +12,8 @@ use Rattle.duk_net.specs.Calm.{FailsOnceArmed, HasSoundCell, HasSoundStores, Rep
 use Rattle.duk_net.specs.First.{IsNewHost, IsNewTerminal, first_world}
 use Rattle.duk_net.specs.Reached.{CallLeads, Reached}
 use Rattle.duk_net.specs.Run.{IsRun, Run}
-use Rattle.duk_net.specs.World.{IsAt, Meanings, WorldOf, meanings_of}
+use Rattle.duk_net.specs.World.{Meanings, WorldOf, meanings_of}
+use Rattle.duk_stations.specs.Places.{IsAt}
 use Rattle.duk_net.specs.declared.event.End.{End}
 use Rattle.duk_net.specs.declared.event.End.TheVariants as ends
 use Rattle.duk_net.specs.declared.event.Event.{Event}

@@ -32,10 +32,11 @@ use Rattle.duk_till.specs.declared.state.TillState.TheVariants.{Stopped, Running
 use Rattle.duk_tree.specs.Serial.{Serial}
 use Rattle.duk_books.specs.Books.{Meanings}
 use Rattle.duk_books.specs.Completed.{MayBeOpen, MayFindOpen}
+use Rattle.duk_books.specs.inner.Known.{OneReading}
 use Rattle.duk_books.proofs.agreement.QuietCalls.{begun_fields}
-use Rattle.duk_books.proofs.agreement.Registers.{NumberLaws}
-use Rattle.duk_books.proofs.agreement.Terminals.{found_then}
-use Rattle.duk_books.proofs.agreement.Tills.{OneReading, one_last, same_last, stopped_is_not_running}
+use Rattle.duk_stations.specs.Registers.{RegisterLaws}
+use Rattle.duk_stations.proofs.Terminals.{found_then}
+use Rattle.duk_books.proofs.agreement.Tills.{one_last, same_last, stopped_is_not_running}
 
 -- ---- bodies
 
@@ -127,7 +128,7 @@ module _ {B : Type 0} (book : CellMeaning B) (old new : B) (honest : (book.state
   found_again : (last : Option Last) → FoundLast book old new last → (ksn : Serial) → MayFindOpen book new ksn → MayFindOpen book old ksn
   found_again last is = found_before (λ kept found. subst (book.state_of old).found (sym ((is.cell.settles.finds honest kept).0 found)) (is.cell.was_found honest))
 
-module _ {C B J I : Type 0} (m : Meanings C B J I) (numbers : NumberLaws) (reading : OneReading) (old new : TillOf C B) (honest : (m.book.state_of old.book).honest) where
+module _ {C B J I : Type 0} (m : Meanings C B J I) (numbers : RegisterLaws) (reading : OneReading) (old new : TillOf C B) (honest : (m.book.state_of old.book).honest) where
   -- what may be open was before
   abbrev pub StaysOpen : Type 0
   StaysOpen = (ksn : Serial) → MayBeOpen m new ksn → MayBeOpen m old ksn

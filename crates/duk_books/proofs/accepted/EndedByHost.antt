@@ -11,7 +11,8 @@ use Rattle.duk_till.specs.Reply.{IsOutcomeKept}
 use Rattle.duk_till.specs.Reversal.{IsUndoneKept}
 use Rattle.duk_till.specs.Till.{IsOpen}
 use Rattle.duk_tree.specs.Serial.{Serial}
-use Rattle.duk_books.specs.Books.{BooksOf, ChangesOnly, IsAt, Meanings}
+use Rattle.duk_books.specs.Books.{BooksOf, Meanings}
+use Rattle.duk_stations.specs.Places.{ChangesOnly, IsAt}
 use Rattle.duk_books.specs.Completed.{HasItsReply, HasItsReversalReply, IsDoneByHost, IsUndoneByHost, reversal_of}
 use Rattle.duk_books.specs.Down.{IsDelivered}
 use Rattle.duk_books.specs.Run.{Run}
@@ -21,7 +22,7 @@ use Rattle.duk_books.specs.declared.outcome.Outcome.{Outcome}
 use Rattle.duk_books.specs.declared.outcome.Outcome.TheVariants as came
 use Rattle.duk_books.proofs.accepted.RepliedBefore.{AnswerLaws, run_replied, run_reversed, same_ksn}
 use Rattle.duk_books.proofs.accepted.StepsSeen.{Seen, given, neither, step_seen, taken}
-use Rattle.duk_books.proofs.moves.StepChanges.{at_contains}
+use Rattle.duk_stations.proofs.PlacesInLists.{at_contains}
 
 -- a run up to one of its outcomes
 record RunsTo {C B J I : Type 0} (m : Meanings C B J I) (old : BooksOf C B J I) (earlier : List Outcome) (outcome : Outcome) : Type 0 where

@@ -6,33 +6,38 @@ use Rattle.duk_till.specs.Lifetime.{Begin, Call, IsCalled, Load, Reverse, Stop}
 use Rattle.duk_till.specs.Till.{IsOpen, TillOf}
 use Rattle.duk_till.specs.declared.last.Last.TheVariants.{Open}
 use Rattle.duk_tree.specs.Serial.{Serial}
-use Rattle.duk_books.specs.Books.{BooksOf, ChangesOnly, Frame, IsAt, Meanings}
+use Rattle.duk_books.specs.Books.{BooksOf, Frame, Meanings}
+use Rattle.duk_stations.specs.Places.{ChangesOnly, IsAt}
 use Rattle.duk_books.specs.CallLeads.{CallLeads}
 use Rattle.duk_books.specs.Completed.{CompletedByHost, EndDifferentPurchases, Ends, IsOpenNowhere, IsOver as IsOverSeen, MayBeOpen}
 use Rattle.duk_books.specs.First.{IsFirst, IsNewTill}
 use Rattle.duk_books.specs.Load.{TakesLoad}
-use Rattle.duk_books.specs.Owner.{IsOwner}
+use Rattle.duk_stations.specs.Owner.{IsOwner}
 use Rattle.duk_books.specs.Reached.{Reached}
 use Rattle.duk_books.specs.Run.{Run}
 use Rattle.duk_books.specs.Step.{Step}
 use Rattle.duk_books.specs.declared.event.Event.{Event}
 use Rattle.duk_books.specs.declared.outcome.Outcome.{Outcome}
 use Rattle.duk_books.specs.declared.outcome.Outcome.TheVariants as came
+use Rattle.duk_books.specs.inner.Known.{BookLaws}
 use Rattle.duk_books.proofs.accepted.ComesToBeOpen.{IsLasting, Opens, called_open, done_closes, none_is_no_body, undone_closes}
 use Rattle.duk_books.proofs.accepted.EndedByHost.{done_by_host, done_number, done_step, has_its_reply, has_its_reversal_reply, undone_by_host, undone_number, undone_step}
 use Rattle.duk_books.proofs.accepted.ListsOfOutcomes.{any_cases, any_none, any_of, no_pairs, pairs_first}
 use Rattle.duk_books.proofs.accepted.RepliedBefore.{AnswerLaws}
 use Rattle.duk_books.proofs.agreement.Agreement.{called_back, first_holds, new_at}
-use Rattle.duk_books.proofs.agreement.BooksHold.{BookLaws, Holds, after_at, before_at, lists_of, one_till, set_of}
+use Rattle.duk_books.proofs.agreement.BooksHold.{Holds, lists_of, one_till, set_of}
+use Rattle.duk_stations.proofs.PlacesInLists.{after_at, before_at}
 use Rattle.duk_books.proofs.agreement.EachMoveHolds.{holds_after}
 use Rattle.duk_books.specs.Came.{IsAsked}
 use Rattle.duk_books.proofs.agreement.Facts.{IsCalledBack, IsUndoneBy, asked_before, called_back_before, none_in}
 use Rattle.duk_books.proofs.agreement.HostHolds.{answered_entries}
-use Rattle.duk_books.proofs.agreement.OwnersStay.{change_owner}
+use Rattle.duk_stations.proofs.Owners.{owner_stays}
+use Rattle.duk_books.proofs.moves.KeysStay.{change_leaves}
 use Rattle.duk_books.proofs.agreement.QuietCalls.{is_fresh}
 use Rattle.duk_books.proofs.agreement.Tills.{stopped_is_not_running}
 use Rattle.duk_books.proofs.moves.ReachedByMoves.{reached_all, reached_step}
-use Rattle.duk_books.proofs.moves.StepChanges.{Change, IsQuiet, IsTelling, answered, at_contains, host, load, move_change, nothing, quiet, reverse, send, tell, unanswered}
+use Rattle.duk_books.proofs.moves.StepChanges.{Change, IsQuiet, IsTelling, answered, host, load, move_change, nothing, quiet, reverse, send, tell, unanswered}
+use Rattle.duk_stations.proofs.PlacesInLists.{at_contains}
 
 -- ---- what is known of purchases
 
@@ -106,12 +111,12 @@ module _ {C B J I : Type 0} (m : Meanings C B J I) (laws : BookLaws m) (old : Bo
   call_open : (tills : List (TillOf C B)) (t : ℕ) (call : Call) → IsLasting call → ChangesOnly t (IsCalled m.cell m.book call) old.tills tills → (u : ℕ) (till : TillOf C B) (ksn : Serial) → IsAt tills u till → MayBeOpen m till ksn → CameOpen u ksn
   call_open tills t call lasts change =
       called_tills tills t (IsCalled m.cell m.book call) change
-      (called_open m laws.calls.numbers laws.calls.reading change.before change.after (honest_at t change.before (before_at t (IsCalled m.cell m.book call) old.tills tills change)) call lasts change.changed)
+      (called_open m laws.calls.registers laws.calls.reading change.before change.after (honest_at t change.before (before_at t (IsCalled m.cell m.book call) old.tills tills change)) call lasts change.changed)
 
   load_open : (t : ℕ) (asked : Loading) (outcome : Outcome) (before after : TillOf C B) → (m.book.state_of before.book).honest → TakesLoad m.cell m.book t asked outcome before after
       → (ksn : Serial) → MayBeOpen m after ksn → MayBeOpen m before ksn ⊎ Opens before.terminal ksn
-  load_open t asked (came.Loaded u iksn) before after honest is = called_open m laws.calls.numbers laws.calls.reading before after honest (Load asked (Ok tt)) tt is.2
-  load_open t asked (came.TillFaulted u why) before after honest is = called_open m laws.calls.numbers laws.calls.reading before after honest (Load asked (Err why)) tt is.1
+  load_open t asked (came.Loaded u iksn) before after honest is = called_open m laws.calls.registers laws.calls.reading before after honest (Load asked (Ok tt)) tt is.2
+  load_open t asked (came.TillFaulted u why) before after honest is = called_open m laws.calls.registers laws.calls.reading before after honest (Load asked (Err why)) tt is.1
   load_open t asked _ before after honest is = absurd is
 
   came_open : (new : BooksOf C B J I) → Change m old new → (t : ℕ) (till : TillOf C B) (ksn : Serial) → IsAt new.tills t till → MayBeOpen m till ksn → CameOpen t ksn
@@ -191,7 +196,7 @@ module _ {C B J I : Type 0} (m : Meanings C B J I) (laws : BookLaws m) (old : Bo
   owned_after : (new : BooksOf C B J I) → Change m old new → (t : ℕ) (till : TillOf C B) (ksn : Serial) → IsAt new.tills t till → MayBeOpen m till ksn → IsOwner new.owners ksn.iksn t
   owned_after new change t till ksn at is_open =
       let is = came_open new change t till ksn at is_open in
-      change_owner m old new change ksn.iksn t (elim is.came [
+      owner_stays old.owners new.owners (change_leaves m old new change).owners ksn.iksn t (elim is.came [
         | inl before ↦ safe.owned t is.before ksn is.at before
         | inr begins ↦ opens_owned t is.before ksn is.at begins
       ])
@@ -240,7 +245,7 @@ module _ {C B J I : Type 0} (m : Meanings C B J I) (laws : BookLaws m) (old : Bo
         subst (IsOver m new) same (record {
           sent = inl (is.kept.amount, subst (λ list. IsAsked list done is.kept.amount) (sym (ap (λ books. books.requests) is.delivered.rest)) (subst (λ (it : Serial). IsAsked old.requests it is.kept.amount) number awaited.asked));
           nowhere = nowhere_else new.tills is.u _ till done (inl (is.kept.amount, subst (λ (it : Serial). IsOpen till.before.state it is.kept.amount) number is.kept.was_open))
-              (done_closes m laws.calls.numbers laws.calls.reading till.before till.after (honest_at is.u till.before here) is.delivered.frame.items code is.kept done);
+              (done_closes m laws.calls.registers laws.calls.reading till.before till.after (honest_at is.u till.before here) is.delivered.frame.items code is.kept done);
         })
     ended (came.Undone t undone state) ksn step same =
         let is = undone_step m answers old event t undone state new step in
@@ -251,7 +256,7 @@ module _ {C B J I : Type 0} (m : Meanings C B J I) (laws : BookLaws m) (old : Bo
         subst (IsOver m new) same (record {
           sent = inr (subst (λ list. IsCalledBack list undone) (sym (ap (λ books. books.requests) is.delivered.rest)) back);
           nowhere = nowhere_else new.tills is.u _ till undone (inl (is.kept.amount, subst (λ (it : Serial). IsOpen till.before.state it is.kept.amount) number is.kept.was_open))
-              (undone_closes m laws.calls.numbers laws.calls.reading till.before till.after (honest_at is.u till.before here) is.delivered.frame.items state is.kept undone);
+              (undone_closes m laws.calls.registers laws.calls.reading till.before till.after (honest_at is.u till.before here) is.delivered.frame.items state is.kept undone);
         })
     ended _ ksn step ends = absurd ends
 

@@ -8,9 +8,10 @@ use Rattle.duk_books.specs.AcceptedOnce.{HasReply}
 use Rattle.duk_books.specs.Books.{BooksOf, Meanings}
 use Rattle.duk_books.specs.Completed.{IsFromHost, KnowFromHost}
 use Rattle.duk_books.specs.Reached.{Reached}
+use Rattle.duk_books.specs.inner.Known.{BookLaws}
 use Rattle.duk_books.proofs.accepted.EndedByHost.{told_as}
 use Rattle.duk_books.proofs.accepted.EndsOnce.{reached_hold}
-use Rattle.duk_books.proofs.agreement.BooksHold.{BookLaws, lists_of}
+use Rattle.duk_books.proofs.agreement.BooksHold.{lists_of}
 use Rattle.duk_books.proofs.agreement.Facts.{IsRepliedTo, Lists}
 use Rattle.duk_books.proofs.agreement.Tills.{Fits}
 

@@ -35,7 +35,7 @@ use Rattle.duk_books.specs.declared.outcome.Outcome.TheVariants as came
 use Rattle.duk_books.proofs.accepted.RepliesHold.{ReplyLaws, reached_safe}
 use Rattle.duk_books.proofs.accepted.StepsSeen.{IsOther, Seen, given, neither, step_seen, taken}
 use Rattle.duk_books.proofs.moves.ReachedByMoves.{reached_step}
-use Rattle.duk_books.proofs.moves.StepChanges.{at_contains}
+use Rattle.duk_stations.proofs.PlacesInLists.{at_contains}
 
 -- the bytes are an authentic request, or an authentic reversal
 abbrev pub IsAuthenticSent : HsmKeys → List ℕ → Type 0

@@ -20,8 +20,9 @@ use Rattle.duk_books.specs.Books.{BooksOf, Frame, Meanings}
 use Rattle.duk_books.specs.First.{IsFirst}
 use Rattle.duk_books.specs.OwnKeyOfReplies.{IsOwnKeyReply}
 use Rattle.duk_books.specs.Reached.{Reached}
+use Rattle.duk_books.specs.inner.Known.{HostLaws}
 use Rattle.duk_books.proofs.agreement.Facts.{none_in, the_one}
-use Rattle.duk_books.proofs.agreement.HostHolds.{HostLaws, code_kept, none_new, reply_is_kept}
+use Rattle.duk_books.proofs.agreement.HostHolds.{code_kept, none_new, reply_is_kept}
 use Rattle.duk_books.proofs.moves.HostFinds.{HostFinds, answered_by, answered_finds, judged_finds, refused_finds, touched_finds}
 use Rattle.duk_books.proofs.moves.KeysStay.{refused_keys, touched_keys}
 use Rattle.duk_books.proofs.moves.ReachedByMoves.{reached_all}

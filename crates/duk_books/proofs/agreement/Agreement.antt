@@ -20,21 +20,24 @@ use Rattle.duk_till.specs.declared.last.Payment.{Payment}
 use Rattle.duk_till.specs.declared.state.TillState.TheVariants.{Running}
 use Rattle.duk_tree.specs.Serial.{Serial}
 use Rattle.duk_books.specs.Agree.{Agrees, AreEntriesOf, BooksAgree, AreOfDifferentNumbers, IsInDoubt, StandingAreTold, StandsOf, ToldStand}
-use Rattle.duk_books.specs.Books.{BooksOf, Frame, IsAt, Meanings}
+use Rattle.duk_books.specs.Books.{BooksOf, Frame, Meanings}
+use Rattle.duk_stations.specs.Places.{IsAt}
 use Rattle.duk_books.specs.First.{IsFirst, IsNewTill}
 use Rattle.duk_books.specs.Reached.{Reached}
 use Rattle.duk_books.specs.Sales.{sale_of}
-use Rattle.duk_books.proofs.agreement.BooksHold.{BookLaws, BooksHold, Holds, lists_of}
+use Rattle.duk_books.specs.inner.Known.{BookLaws, OneReading}
+use Rattle.duk_books.proofs.agreement.BooksHold.{BooksHold, Holds, lists_of}
 use Rattle.duk_books.proofs.agreement.EachMoveHolds.{holds_after}
 use Rattle.duk_books.specs.Came.{AreAskedFor, IsAsked, IsReversedBy, KeepsWhatWasSent}
 use Rattle.duk_books.proofs.agreement.Facts.{IsCalledBack, IsRepliedTo, IsSold, none_in, the_only}
 use Rattle.duk_books.proofs.agreement.HostHolds.{EntriesHold, none_new, reversed_of}
 use Rattle.duk_books.proofs.agreement.Registers.{RegistersHold}
-use Rattle.duk_books.proofs.agreement.Terminals.{KeptHas, StateHas}
-use Rattle.duk_books.proofs.agreement.Tills.{IsInDoubt as IsDoubted, IsKeptOf, OneReading, TillHolds, one_last, stopped_is_not_running}
+use Rattle.duk_stations.proofs.Terminals.{new_has}
+use Rattle.duk_books.proofs.agreement.Tills.{IsInDoubt as IsDoubted, IsKeptOf, TillHolds, one_last, stopped_is_not_running}
 use Rattle.duk_books.proofs.moves.HostFinds.{judged_finds}
 use Rattle.duk_books.proofs.moves.ReachedByMoves.{reached_all}
-use Rattle.duk_books.proofs.moves.StepChanges.{at_contains, move_change}
+use Rattle.duk_books.proofs.moves.StepChanges.{move_change}
+use Rattle.duk_stations.proofs.PlacesInLists.{at_contains}
 
 -- ---- entries of one number are equal
 
@@ -209,11 +212,7 @@ module _ {C B J I : Type 0} (m : Meanings C B J I) (books : BooksOf C B J I) (is
 
   new_till : (t : ℕ) (till : TillOf C B) → IsNewTill m till → TillHolds m (lists_of books []) t till
   new_till t till made = record {
-    terminal = record {
-      honest = made.cell.honest;
-      state = subst (StateHas (RegistersHold (lists_of books []) t)) (sym made.terminal_stopped) tt;
-      kept = λ kept found. subst (KeptHas (RegistersHold (lists_of books []) t)) (sym ((made.cell.finds kept).0 found)) (λ ksn has. absurd (none_in ksn has));
-    };
+    terminal = new_has m.cell (RegistersHold (lists_of books []) t) till.terminal made.cell.honest (λ kept found. (made.cell.finds kept).0 found) made.terminal_stopped (λ ksn has. absurd (none_in ksn has));
     book = record {
       honest = made.book.honest;
       runs = λ last runs. absurd (stopped_is_not_running till.state last made.stopped runs);

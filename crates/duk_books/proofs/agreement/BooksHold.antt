@@ -1,29 +1,22 @@
 -- What holds of all that is reached.
-use Rattle.std.proofs.Common.{◌≡◌, ◌≢◌, ◌⊎◌, ◌+◌, ◌++◌, ◌∷◌, [], ℕ, zero, suc, List, Some, AllPairs, Contains, inl, inr, refl, sym, ap, subst, ◌∙◌, arith}
+use Rattle.std.proofs.Common.{◌≡◌, ◌≢◌, ◌++◌, ◌∷◌, [], ℕ, List, AllPairs, Contains, inl, inr, sym, subst}
 use Rattle.std.proofs.lemmas.List.Elements.{Contains-append_cases}
-use Rattle.std.specs.List.{slice_get, slice_set}
-use Rattle.duk_frame.specs.Payment.{request_of}
-use Rattle.duk_frame.specs.Request.{IsRequest}
-use Rattle.duk_reversal.specs.Authentic.{reversal_of}
-use Rattle.duk_reversal.specs.Reversal.{IsReversal}
-use Rattle.duk_term.specs.Begin.{IsBegun}
-use Rattle.duk_term.specs.Reversal.{IsReversalBegun, numbers_of}
-use Rattle.duk_term.specs.Terminal.{TerminalOf, serial_of}
-use Rattle.duk_term.specs.declared.purchase.Purchase.{Purchase}
 use Rattle.duk_term.specs.declared.state.State.TheVariants as term_state
 use Rattle.duk_till.specs.Till.{TillOf}
 use Rattle.duk_tree.specs.Serial.{Serial}
 use Rattle.duk_books.specs.Agree.{AreOfDifferentNumbers}
-use Rattle.duk_books.specs.Books.{BooksOf, ChangesOnly, IsAt, Meanings}
-use Rattle.duk_books.specs.Owner.{IsOwner}
-use Rattle.duk_books.specs.declared.owner.Owner.{Owner}
+use Rattle.duk_books.specs.Books.{BooksOf, Meanings}
+use Rattle.duk_stations.specs.Places.{ChangesOnly, IsAt}
+use Rattle.duk_stations.specs.Owner.{IsOwner}
+use Rattle.duk_stations.specs.declared.owner.Owner.{Owner}
 use Rattle.duk_books.specs.Came.{IsAsked}
-use Rattle.duk_books.proofs.agreement.Facts.{FrameLaws, GrowBeside, IsCalledBack, IsSold, Lists, the_only}
-use Rattle.duk_books.proofs.agreement.HostHolds.{HostHolds, HostLaws}
-use Rattle.duk_books.proofs.agreement.OwnersStay.{HaveOneOwner}
-use Rattle.duk_books.proofs.agreement.QuietCalls.{CallLaws, ListsHold}
+use Rattle.duk_books.proofs.agreement.Facts.{GrowBeside, IsCalledBack, IsSold, Lists, the_only}
+use Rattle.duk_books.proofs.agreement.HostHolds.{HostHolds}
+use Rattle.duk_stations.proofs.Owners.{HaveOneOwner}
+use Rattle.duk_books.proofs.agreement.QuietCalls.{ListsHold}
 use Rattle.duk_books.proofs.agreement.Registers.{RegistersHold, SetHolds}
-use Rattle.duk_books.proofs.agreement.Terminals.{StateHas}
+use Rattle.duk_stations.proofs.PlacesInLists.{each_after}
+use Rattle.duk_stations.proofs.Terminals.{StateHas}
 use Rattle.duk_books.proofs.agreement.Tills.{IsGood, TillHolds, till_beside}
 
 -- all that was begun, with what was sent, answered, owned and sold
@@ -46,38 +39,11 @@ Holds m books = (begun : List Serial) × BooksHold m books begun
 
 -- ---- tills in their places
 
-at_set : {A : Type 0} (things : List A) (place other : ℕ) (before after thing : A) → slice_get things place ≡ Some before → slice_get (slice_set things place after) other ≡ Some thing
-    → ((other ≡ place) × (thing ≡ after)) ⊎ ((other ≢ place) × (slice_get things other ≡ Some thing))
-at_set [] place other before after thing was is = grind (arith, was)
-at_set (first ∷ things) zero zero before after thing was is = inl (refl, grind (arith, is))
-at_set (first ∷ things) zero (suc other) before after thing was is = inr ((λ same. omega (arith, same)), is)
-at_set (first ∷ things) (suc place) zero before after thing was is = inr ((λ same. omega (arith, same)), is)
-at_set (first ∷ things) (suc place) (suc other) before after thing was is = elim (at_set things place other before after thing was is) [
-  | inl same ↦ inl (ap suc same.0, same.1)
-  | inr apart ↦ inr ((λ same. apart.0 (omega (arith, same))), apart.1)
-]
-
--- a till that changes stood there before
-pub before_at : {A : Type 0} (t : ℕ) (P : A → A → Type 0) (old new : List A) (change : ChangesOnly t P old new) → IsAt old t change.before
-before_at t P old new change = record { place = change.place; number_is = change.number_is; thing_is = change.was }
-
--- each till is that one, as it then is, or another one, as it was
-pub after_at : {A : Type 0} (t : ℕ) (P : A → A → Type 0) (old new : List A) (change : ChangesOnly t P old new) (u : ℕ) (till : A) → IsAt new u till
-    → ((u ≡ t) × (till ≡ change.after)) ⊎ ((u ≢ t) × IsAt old u till)
-after_at t P old new change u till at =
-    let found = at_set old change.place at.place change.before change.after till change.was (subst (λ list. slice_get list at.place ≡ Some till) change.others at.thing_is) in
-    elim found [
-      | inl same ↦ inl (at.number_is ∙ ap (λ n. n + 1) same.0 ∙ sym change.number_is, same.1)
-      | inr apart ↦ inr ((λ same. apart.0 (omega (arith, same, at.number_is, change.number_is))), record { place = at.place; number_is = at.number_is; thing_is = apart.1 })
-    ]
-
 pub tills_after : {C B J I : Type 0} (m : Meanings C B J I) (t : ℕ) (P : TillOf C B → TillOf C B → Type 0) (old new : List (TillOf C B)) (before after : Lists) → (change : ChangesOnly t P old new)
     → ((u : ℕ) (till : TillOf C B) → IsAt old u till → TillHolds m before u till) → ((u : ℕ) → u ≢ t → GrowBeside u before after) → TillHolds m after t change.after
     → (u : ℕ) (till : TillOf C B) → IsAt new u till → TillHolds m after u till
-tills_after m t P old new before after change tills grow now u till at = elim (after_at t P old new change u till at) [
-  | inl same ↦ subst (λ u. TillHolds m after u till) (sym same.0) (subst (TillHolds m after t) (sym same.1) now)
-  | inr apart ↦ till_beside m u before after till (grow u apart.0) (tills u till apart.1)
-]
+tills_after m t P old new before after change tills grow now =
+    each_after t P old new change (TillHolds m before) (TillHolds m after) tills (λ u till apart holds. till_beside m u before after till (grow u apart) holds) now
 
 -- ---- lists that stay
 
@@ -98,14 +64,6 @@ grow_same t lists = record {
 -- what is of two tills is of one
 pub one_till : (owners : List Owner) (iksn t u : ℕ) → IsOwner owners iksn t → IsOwner owners iksn u → u ≡ t
 one_till owners iksn t u one other = one.alone u other.owns
-
--- what is known of all, and of frames
-pub record BookLaws {C B J I : Type 0} (m : Meanings C B J I) : Type 0 where
-  pub calls : CallLaws
-  pub frames : FrameLaws
-  pub host : HostLaws
-  pub request : (purchase : Purchase) (old new : TerminalOf C) (frame : List ℕ) → (begun : IsBegun m.cell purchase old new frame) → IsRequest frame (request_of begun.key (serial_of begun.set) purchase.pan purchase.pin purchase.amount)
-  pub reversal : (reversed ksn : Serial) (frame : List ℕ) (old new : TerminalOf C) → (begun : IsReversalBegun m.cell reversed ksn frame old new) → IsReversal frame (reversal_of begun.key (numbers_of begun.set reversed))
 
 -- ---- what is known of one till
 

@@ -18,19 +18,23 @@ use Rattle.duk_till.specs.declared.state.TillState.{TillState}
 use Rattle.duk_till.specs.declared.state.TillState.TheVariants.{Stopped, Running}
 use Rattle.duk_tree.specs.Serial.{Serial}
 use Rattle.duk_books.specs.Agree.{AreOfDifferentNumbers}
-use Rattle.duk_books.specs.Books.{BooksOf, ChangesOnly, Frame, Meanings}
+use Rattle.duk_books.specs.Books.{BooksOf, Frame, Meanings}
+use Rattle.duk_stations.specs.Places.{ChangesOnly}
 use Rattle.duk_books.specs.Load.{ChangesOwners, IsGiven, TakesLoad}
-use Rattle.duk_books.specs.Owner.{BecomesOwner, IsOwner}
+use Rattle.duk_stations.specs.Owner.{BecomesOwner, IsOwner}
 use Rattle.duk_books.specs.Sales.{TakesSale, sale_of}
 use Rattle.duk_books.specs.declared.outcome.Outcome.{Outcome}
 use Rattle.duk_books.specs.declared.outcome.Outcome.TheVariants as came
-use Rattle.duk_books.specs.declared.owner.Owner.{Owner}
+use Rattle.duk_stations.specs.declared.owner.Owner.{Owner}
 use Rattle.duk_books.specs.declared.sales.Sale.{Sale}
-use Rattle.duk_books.proofs.agreement.BooksHold.{BookLaws, BooksHold, Holds, before_at, begun_owned_too, grow_same, lists_hold, lists_of, one_till, set_of, tills_after}
+use Rattle.duk_books.specs.inner.Known.{BookLaws}
+use Rattle.duk_books.proofs.agreement.BooksHold.{BooksHold, Holds, begun_owned_too, grow_same, lists_hold, lists_of, one_till, set_of, tills_after}
 use Rattle.duk_books.specs.Came.{IsAsked}
 use Rattle.duk_books.proofs.agreement.Facts.{GrowBeside, Lists, replied_before, the_only, undone_before}
 use Rattle.duk_books.proofs.agreement.HostHolds.{HostHolds, answered_holds, refused_holds, touched_holds}
-use Rattle.duk_books.proofs.agreement.OwnersStay.{one_owner_after, owner_stays, owns_loaded}
+use Rattle.duk_stations.proofs.Owners.{one_owner_stays, owner_stays, owns_loaded}
+use Rattle.duk_stations.proofs.PlacesInLists.{before_at}
+use Rattle.duk_books.proofs.moves.KeysStay.{owners_go}
 use Rattle.duk_books.proofs.agreement.QuietCalls.{begin_refused_so, book_armed, load_refused, lost, reverse_refused, terminal_armed, till_loaded, with_begun}
 use Rattle.duk_books.proofs.agreement.SentFramesHold.{reverse_holds, send_holds}
 use Rattle.duk_books.proofs.agreement.TellingCalls.{sales_stay, tells, with_sales}
@@ -130,12 +134,12 @@ module _ {C B J I : Type 0} (m : Meanings C B J I) (laws : BookLaws m) (old : Bo
   loaded_begun : (outcome : Outcome) (loaded t u : ℕ) (owners : List Owner) (ksn : Serial) → ChangesOwners outcome old.owners loaded t owners → Contains begun ksn → IsOwner owners ksn.iksn u → IsOwner old.owners ksn.iksn u
   loaded_begun outcome loaded t u owners ksn changes has owned =
       let was = holds.begun_owned ksn has in
-      let stays = owner_stays outcome old.owners loaded t owners ksn.iksn was.0 changes was.1 in
+      let stays = owner_stays old.owners owners (owners_go outcome old.owners loaded t owners changes) ksn.iksn was.0 was.1 in
       subst (λ it. IsOwner old.owners ksn.iksn it) (one_till owners ksn.iksn u was.0 owned stays) was.1
 
   grow_loaded : (outcome : Outcome) (loaded t u : ℕ) (owners : List Owner) → ChangesOwners outcome old.owners loaded t owners → GrowBeside u Before (record Before { owners = owners })
   grow_loaded outcome loaded t u owners changes = record {
-    owner = λ iksn v is. owner_stays outcome old.owners loaded t owners iksn v changes is;
+    owner = owner_stays old.owners owners (owners_go outcome old.owners loaded t owners changes);
     begun = λ ksn has owned. (has, loaded_begun outcome loaded t u owners ksn changes has owned);
     begun_stays = λ ksn has. has;
     asked = λ ksn amount is owned. (is, loaded_begun outcome loaded t u owners ksn changes (holds.asked ksn amount is) owned);
@@ -164,13 +168,14 @@ module _ {C B J I : Type 0} (m : Meanings C B J I) (laws : BookLaws m) (old : Bo
   load_holds : (t iksn : ℕ) (outcome : Outcome) (new : BooksOf C B J I) → IsGiven m old t iksn outcome new → Holds m (record old { tills = new.tills; owners = new.owners })
   load_holds t iksn outcome new is =
       let after : Lists = record Before { owners = new.owners } in
+      let go = owners_go outcome old.owners iksn t new.owners is.owners in
       let grow = λ (u : ℕ). grow_loaded outcome iksn t u new.owners is.owners in
       let before = till_beside m t Before after is.till.before (grow t) (holds.tills t is.till.before (before_at t _ old.tills new.tills is.till)) in (
         begun,
         record {
           once = holds.once;
-          one_owner = one_owner_after outcome old.owners iksn t new.owners is.owners holds.one_owner;
-          begun_owned = λ ksn has. let was = holds.begun_owned ksn has in (was.0, owner_stays outcome old.owners iksn t new.owners ksn.iksn was.0 is.owners was.1);
+          one_owner = one_owner_stays old.owners new.owners go holds.one_owner;
+          begun_owned = λ ksn has. let was = holds.begun_owned ksn has in (was.0, owner_stays old.owners new.owners go ksn.iksn was.0 was.1);
           asked = holds.asked;
           one_amount = holds.one_amount;
           called_back = holds.called_back;

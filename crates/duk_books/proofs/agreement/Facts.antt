@@ -1,9 +1,8 @@
 -- What the frames on the network say, and whom they are of.
 use Rattle.std.proofs.Common.{◌≡◌, ◌⊎◌, ◌++◌, ◌∷◌, [], ℕ, zero, suc, List, Contains, inl, inr, refl, sym, ap, subst, ◌∙◌, arith}
 use Rattle.std.proofs.lemmas.List.Elements.{Contains-append_cases, Contains-append_left, Contains-append_right}
-use Rattle.duk_frame.specs.Answer.{IsAnswer, IsReply}
+use Rattle.duk_frame.specs.Answer.{IsReply}
 use Rattle.duk_frame.specs.Request.{IsRequest}
-use Rattle.duk_frame.specs.declared.answer.AnswerFrame.{AnswerFrame}
 use Rattle.duk_frame.specs.declared.code.Code.{Code}
 use Rattle.duk_frame.specs.declared.request.Request.{Request}
 use Rattle.duk_reversal.specs.Reply.{IsReversalReply}
@@ -14,10 +13,11 @@ use Rattle.duk_till.specs.History.{payment_of}
 use Rattle.duk_tree.specs.Serial.{Serial}
 use Rattle.duk_books.specs.Books.{Frame}
 use Rattle.duk_books.specs.Came.{IsAsked, IsReversedBy}
-use Rattle.duk_books.specs.Owner.{IsOwner}
+use Rattle.duk_stations.specs.Owner.{IsOwner}
 use Rattle.duk_books.specs.Sales.{sale_of}
-use Rattle.duk_books.specs.declared.owner.Owner.{Owner}
+use Rattle.duk_stations.specs.declared.owner.Owner.{Owner}
 use Rattle.duk_books.specs.declared.sales.Sale.{Sale}
+use Rattle.duk_books.specs.inner.Known.{FrameLaws}
 
 -- ---- members
 
@@ -55,14 +55,6 @@ pub record IsUndoneBy (answers : List Frame) (ksn : Serial) : Type 0 where
   pub sent : Contains answers frame
   pub is_reply : IsReversalReply frame.items reply
   pub reversed_is : reply.numbers.reversed ≡ ksn
-
--- how frames are read
-pub record FrameLaws : Type 0 where
-  pub one_request : (bytes : List ℕ) (one other : Request) → IsRequest bytes one → IsRequest bytes other → one ≡ other
-  pub one_answer : (bytes : List ℕ) (one other : AnswerFrame) → IsAnswer bytes one → IsAnswer bytes other → one ≡ other
-  pub one_reversal : (bytes : List ℕ) (one other : reversal_frame.Reversal) → IsReversal bytes one → IsReversal bytes other → one ≡ other
-  pub one_reply : (bytes : List ℕ) (one other : reply_frame.ReversalReply) → IsReversalReply bytes one → IsReversalReply bytes other → one ≡ other
-  pub apart : (bytes : List ℕ) (request : Request) (reversal : reversal_frame.Reversal) → IsRequest bytes request → ¬ IsReversal bytes reversal
 
 -- ---- more frames
 

@@ -2,9 +2,8 @@
 use Rattle.std.proofs.Common.{◌≡◌, ◌++◌, ◌∷◌, [], ℕ, zero, suc, List, Contains, flat_map, take, inl, inr, refl, sym, ap, subst, ◌∙◌, arith}
 use Rattle.std.proofs.lemmas.List.Elements.{Contains-append_cases, Contains-append_left, Contains-append_right}
 use Rattle.duk_frame.specs.Answer.{IsAnswer, IsReply}
-use Rattle.duk_frame.specs.Payment.{payment_reply, reply_mac}
+use Rattle.duk_frame.specs.Payment.{reply_mac}
 use Rattle.duk_frame.specs.Request.{IsRequest}
-use Rattle.duk_frame.specs.declared.answer.AnswerFrame.{AnswerFrame}
 use Rattle.duk_frame.specs.declared.answer.AnswerFrame.TheVariants.{Reply}
 use Rattle.duk_frame.specs.declared.code.Code.{Code}
 use Rattle.duk_frame.specs.declared.request.Request.{Request}
@@ -18,28 +17,21 @@ use Rattle.duk_journal.specs.declared.entry.Decided.TheVariants.{Payment, Revers
 use Rattle.duk_journal.specs.declared.entry.Entry.{Entry}
 use Rattle.duk_journal_host.specs.Group.{AnswersFrames, GroupRefused}
 use Rattle.duk_journal_host.specs.Host.{HostMeaning, HostOf, JudgesBy, basis_of}
-use Rattle.duk_journal_host.specs.Judged.{AreJudged, AreRepliesOf, AreReversalRepliesOf, IsReplyOf, IsReversalReplyOf}
+use Rattle.duk_journal_host.specs.Judged.{AreJudged, IsReplyOf, IsReversalReplyOf}
 use Rattle.duk_journal_host.specs.Judgement.{IsJudged, LineBasis, with_entries}
 use Rattle.duk_reversal.specs.Numbers.{AreNumbers, Numbers}
 use Rattle.duk_reversal.specs.Reply.{IsReversalReply}
 use Rattle.duk_reversal.specs.Reversal.{IsReversal}
 use Rattle.duk_reversal.specs.declared.reply.ReversalReply as reply_frame
 use Rattle.duk_reversal.specs.declared.reversal.Reversal as reversal_frame
-use Rattle.duk_tree.specs.Serial.{IsSerial, Serial}
+use Rattle.duk_tree.specs.Serial.{Serial}
 use Rattle.duk_books.specs.AcceptedOnce.{HasPayment}
 use Rattle.duk_books.specs.Books.{Frame, Meanings}
 use Rattle.duk_books.specs.Came.{AreAskedFor, IsAskedFor}
+use Rattle.duk_books.specs.inner.Known.{HostLaws}
 use Rattle.duk_books.proofs.agreement.Facts.{IsRepliedTo, IsUndoneBy, asked_before, none_in, reversed_before, the_one, the_only}
 use Rattle.duk_books.proofs.moves.HostFinds.{HostFinds, answered_by, answered_finds, refused_finds, touched_finds}
 use Rattle.duk_books.proofs.moves.StepChanges.{TouchesHost}
-
--- what is known of a host's answers
-pub record HostLaws : Type 0 where
-  pub new_numbers : (basis : LineBasis) (frames answers : List (List ℕ)) (added : Entries) → AreJudged basis frames answers added → UseNewNumbers basis.entries → UseNewNumbers (basis.entries ++ added)
-  pub replies : (basis : LineBasis) (frames answers : List (List ℕ)) (added : Entries) → AreJudged basis frames answers added
-      → AreRepliesOf basis.keys (basis.entries ++ added) answers × AreReversalRepliesOf basis.keys (basis.entries ++ added) answers
-  pub one_answer : (bytes : List ℕ) (one other : AnswerFrame) → IsAnswer bytes one → IsAnswer bytes other → one ≡ other
-  pub replied : (key : List ℕ) (ksn : Serial) (code : Code) → IsSerial ksn → IsReply (payment_reply key ksn code) ksn code (reply_mac key ksn code)
 
 -- ---- where entries come from
 

@@ -1,42 +1,27 @@
 -- Who owns an initial key serial number is one of the tills.
-use Rattle.std.proofs.Common.{◌≡◌, ◌⊎◌, ◌<◌, ℕ, List, inl, inr, length, sym, ap, subst, ◌∙◌}
-use Rattle.std.proofs.lemmas.List.{length-set}
-use Rattle.std.proofs.lemmas.List.Elements.{Contains-push_cases}
+use Rattle.std.proofs.Common.{◌≡◌, ◌⊎◌, ℕ, List, inl, inr, sym, ap, subst}
 use Rattle.duk_term.specs.declared.fault.TermFault.TheVariants as term_fault
 use Rattle.duk_till.specs.declared.fault.TillFault.TheVariants as fault
-use Rattle.duk_books.specs.Books.{BooksOf, ChangesOnly, HasOne, Meanings}
+use Rattle.duk_books.specs.Books.{BooksOf, Meanings}
+use Rattle.duk_stations.specs.Places.{HasOne}
 use Rattle.duk_books.specs.Load.{ChangesOwners}
-use Rattle.duk_books.specs.Owner.{BecomesOwner, Owns}
+use Rattle.duk_stations.specs.Owner.{Owns}
 use Rattle.duk_books.specs.Reached.{Reached}
 use Rattle.duk_books.specs.declared.outcome.Outcome.{Outcome}
 use Rattle.duk_books.specs.declared.outcome.Outcome.TheVariants as came
-use Rattle.duk_books.specs.declared.owner.Owner.{Owner}
+use Rattle.duk_stations.specs.declared.owner.Owner.{Owner}
+use Rattle.duk_stations.proofs.Owners.{owned_before as owned_then}
+use Rattle.duk_stations.proofs.PlacesInLists.{stays_there}
 use Rattle.duk_books.proofs.agreement.Facts.{none_in}
 use Rattle.duk_books.proofs.moves.ReachedByMoves.{reached_all}
 use Rattle.duk_books.proofs.moves.StepChanges.{Change, answered, host, load, move_change, nothing, quiet, reverse, send, tell, unanswered}
 
 -- a till joins the owners, or nobody does
-owns_then : (old : List Owner) (loaded u : ℕ) (new : List Owner) (iksn t : ℕ) → BecomesOwner old loaded u new → Owns new iksn t → Owns old iksn t ⊎ (t ≡ u)
-owns_then old loaded u new iksn t (inl joins) owns =
-    elim (Contains-push_cases old (record { iksn = loaded; t = u }) (record { iksn = iksn; t = t }) (subst (λ owners. Owns owners iksn t) joins.joins owns)) [
-      | inl before ↦ inl before
-      | inr is ↦ inr (sym (ap (λ (owner : Owner). owner.t) is))
-    ]
-owns_then old loaded u new iksn t (inr keeps) owns = inl (subst (λ owners. Owns owners iksn t) keeps.same owns)
-
-owned_before : (outcome : Outcome) (old : List Owner) (loaded u : ℕ) (new : List Owner) (iksn t : ℕ) → ChangesOwners outcome old loaded u new → Owns new iksn t → Owns old iksn t ⊎ (t ≡ u)
-owned_before (came.Loaded v number) old loaded u new iksn t changes owns = owns_then old loaded u new iksn t changes owns
-owned_before (came.TillFaulted v (fault.Terminal (term_fault.Store why))) old loaded u new iksn t changes owns = owns_then old loaded u new iksn t changes owns
-owned_before (came.TillFaulted v _) old loaded u new iksn t changes owns = inl (subst (λ owners. Owns owners iksn t) changes owns)
-owned_before _ old loaded u new iksn t changes owns = inl (subst (λ owners. Owns owners iksn t) changes owns)
-
--- a till that is there stays, as one of them changes
-stays_there : {A : Type 0} (t : ℕ) (P : A → A → Type 0) (old new : List A) (u : ℕ) → ChangesOnly t P old new → HasOne old u → HasOne new u
-stays_there t P old new u change one = record {
-  place = one.place;
-  number_is = one.number_is;
-  within = subst (λ n. one.place < n) (sym (ap length change.others ∙ length-set old change.place change.after)) one.within;
-}
+owned_by_load : (outcome : Outcome) (old : List Owner) (loaded u : ℕ) (new : List Owner) (iksn t : ℕ) → ChangesOwners outcome old loaded u new → Owns new iksn t → Owns old iksn t ⊎ (t ≡ u)
+owned_by_load (came.Loaded v number) old loaded u new iksn t changes owns = owned_then old loaded u new iksn t changes owns
+owned_by_load (came.TillFaulted v (fault.Terminal (term_fault.Store why))) old loaded u new iksn t changes owns = owned_then old loaded u new iksn t changes owns
+owned_by_load (came.TillFaulted v _) old loaded u new iksn t changes owns = inl (subst (λ owners. Owns owners iksn t) changes owns)
+owned_by_load _ old loaded u new iksn t changes owns = inl (subst (λ owners. Owns owners iksn t) changes owns)
 
 module _ {C B J I : Type 0} (m : Meanings C B J I) where
   abbrev OwnersAreTills : BooksOf C B J I → Type 0
@@ -50,15 +35,15 @@ module _ {C B J I : Type 0} (m : Meanings C B J I) where
 
   after_change : (old new : BooksOf C B J I) → Change m old new → OwnersAreTills old → OwnersAreTills new
   after_change old new (nothing same) are = subst OwnersAreTills (sym same) are
-  after_change old new (quiet t call is change rest) are = with_owners old new (ap (λ it. it.owners) rest) (λ u one. stays_there t _ old.tills new.tills u change one) are
+  after_change old new (quiet t call is change rest) are = with_owners old new (ap (λ it. it.owners) rest) (λ u one. stays_there t _ old.tills new.tills change u one) are
   after_change old new (load t loaded outcome is) are = λ iksn u owns.
-      stays_there t _ old.tills new.tills u is.till (elim (owned_before outcome old.owners loaded t new.owners iksn u is.owners owns) [
+      stays_there t _ old.tills new.tills is.till u (elim (owned_by_load outcome old.owners loaded t new.owners iksn u is.owners owns) [
         | inl before ↦ are iksn u before
         | inr same ↦ subst (λ it. HasOne old.tills it) (sym same) is.may.there
       ])
-  after_change old new (send t purchase begun change rest) are = with_owners old new (ap (λ it. it.owners) rest) (λ u one. stays_there t _ old.tills new.tills u change one) are
-  after_change old new (reverse t begun sent is_reversal change rest) are = with_owners old new (ap (λ it. it.owners) rest) (λ u one. stays_there t _ old.tills new.tills u change one) are
-  after_change old new (tell t call telling change takes rest) are = with_owners old new (ap (λ it. it.owners) rest) (λ u one. stays_there t _ old.tills new.tills u change one) are
+  after_change old new (send t purchase begun change rest) are = with_owners old new (ap (λ it. it.owners) rest) (λ u one. stays_there t _ old.tills new.tills change u one) are
+  after_change old new (reverse t begun sent is_reversal change rest) are = with_owners old new (ap (λ it. it.owners) rest) (λ u one. stays_there t _ old.tills new.tills change u one) are
+  after_change old new (tell t call telling change takes rest) are = with_owners old new (ap (λ it. it.owners) rest) (λ u one. stays_there t _ old.tills new.tills change u one) are
   after_change old new (answered frame answer sent is rest) are = with_tills old new (ap (λ it. it.owners) rest) (ap (λ it. it.tills) rest) are
   after_change old new (unanswered frame answers why sent is rest) are = with_tills old new (ap (λ it. it.owners) rest) (ap (λ it. it.tills) rest) are
   after_change old new (host touches rest) are = with_tills old new (ap (λ it. it.owners) rest) (ap (λ it. it.tills) rest) are

@@ -4,7 +4,7 @@ use Rattle.std.proofs.lemmas.List.Elements.{Contains-append_cases, Contains-appe
 use Rattle.duk_regs.specs.Registers.{RegisterSet}
 use Rattle.duk_store.specs.Cell.{CellMeaning, Kept}
 use Rattle.duk_term.specs.Begin.{BeginRefused, IsBegunUnder, TakesNumber}
-use Rattle.duk_term.specs.Load.{LoadRefused, Loading}
+use Rattle.duk_term.specs.Load.{Loading}
 use Rattle.duk_term.specs.Reply.{IsPending}
 use Rattle.duk_term.specs.Reversal.{ReversalRefused}
 use Rattle.duk_term.specs.Terminal.{TerminalOf, serial_of}
@@ -28,18 +28,17 @@ use Rattle.duk_till.specs.declared.state.TillState.{TillState}
 use Rattle.duk_till.specs.declared.state.TillState.TheVariants.{Stopped, Running}
 use Rattle.duk_tree.specs.Serial.{IsSerial, Serial}
 use Rattle.duk_books.specs.Books.{Meanings}
-use Rattle.duk_books.specs.Owner.{IsOwner}
+use Rattle.duk_stations.specs.Owner.{IsOwner}
 use Rattle.duk_books.specs.Came.{IsAsked}
+use Rattle.duk_books.specs.inner.Known.{CallLaws}
 use Rattle.duk_books.proofs.agreement.Facts.{IsCalledBack, IsSold, Lists, the_only}
-use Rattle.duk_books.proofs.agreement.Registers.{IsBehind, NumberLaws, RegistersHold, SetHolds, holds_left, holds_loaded, is_new, taken_behind}
-use Rattle.duk_books.proofs.agreement.Terminals.{RegisterLaws, StateHas, TerminalHas, armed, begin_refused, begun, load_stopped, loaded, reversal_refused, unchanged}
-use Rattle.duk_books.proofs.agreement.Tills.{BookHolds, Fits, IsAwaited, IsGood, IsInDoubt, OneReading, TillHolds, book_lost, book_stays, doubt_stays, same_last, stopped_is_not_running}
-
--- what is known of registers, numbers and bodies
-pub record CallLaws : Type 0 where
-  pub registers : RegisterLaws
-  pub numbers : NumberLaws
-  pub reading : OneReading
+use Rattle.duk_stations.specs.inner.Moves.{Goes, GoesLoaded, is_armed, is_loaded, unmoved}
+use Rattle.duk_stations.specs.Registers.{RegisterLaws}
+use Rattle.duk_stations.proofs.Memory.{goes_subsides}
+use Rattle.duk_stations.proofs.Numbers.{IsBehind, holds_left, holds_loaded, is_new, taken_behind}
+use Rattle.duk_stations.proofs.Terminals.{StateHas, TerminalHas, begin_goes, goes_has, load_goes, load_has, request_takes, reversal_goes, takes_has}
+use Rattle.duk_books.proofs.agreement.Registers.{RegistersHold, SetHolds}
+use Rattle.duk_books.proofs.agreement.Tills.{BookHolds, Fits, IsAwaited, IsGood, IsInDoubt, TillHolds, book_lost, book_stays, doubt_stays, same_last, stopped_is_not_running}
 
 -- what is known of all tills together: what is sold is good, and what was asked for or called back has
 -- begun
@@ -71,11 +70,11 @@ still_pending old new pending same (set, is) = (set, sym same ∙ is)
 
 -- ---- the fields of a purchase that begins
 
-pub begun_fields : {C : Type 0} → NumberLaws → (cell : CellMeaning C) (purchase : Purchase) (ksn : Serial) (frame : List ℕ) (old new : TerminalOf C) → IsBegunUnder cell purchase ksn frame old new
+pub begun_fields : {C : Type 0} → RegisterLaws → (cell : CellMeaning C) (purchase : Purchase) (ksn : Serial) (frame : List ℕ) (old new : TerminalOf C) → IsBegunUnder cell purchase ksn frame old new
     → AreLastFields (opened ksn purchase)
 begun_fields laws cell purchase ksn frame old new is =
     let takes = is.begun.takes.takes in
-    let serial : IsSerial (serial_of is.begun.set) = record { iksn_is = takes.set_is.iksn_is; counter_fits = laws.fits is.begun.set.counter takes.usable } in
+    let serial : IsSerial (serial_of is.begun.set) = record { iksn_is = takes.set_is.iksn_is; counter_fits = (laws.fits is.begun.set.counter takes.usable).0 } in
     (subst IsSerial (sym is.ksn_is) serial, is.begun.purchase_is.amount_fits)
 
 -- ---- one more number has begun
@@ -100,18 +99,20 @@ book_begun book t lists ksn till holds = record {
 
 module _ {C B J I : Type 0} (laws : CallLaws) (m : Meanings C B J I) (t : ℕ) where
   -- registers from which one more number is taken
-  takes_on : (lists : Lists) (set left : RegisterSet) (key : List ℕ) → TakesNumber set key left → SetHolds lists t set → SetHolds lists t left
-  takes_on lists set left key takes holds = holds_left laws.numbers t lists lists set left key takes holds refl (λ ksn has. inl has)
+  pub takes_on : (lists : Lists) (set left : RegisterSet) (key : List ℕ) → TakesNumber set key left → SetHolds lists t set → SetHolds lists t left
+  takes_on lists set left key takes holds = holds_left laws.registers (Contains lists.begun) (Contains lists.begun) lists.owners t set left key takes (λ ksn has. inl has) holds
+
+  -- a terminal that goes on
+  pub terminal_goes : (lists : Lists) (old new : TerminalOf C) → TerminalHas m.cell (RegistersHold lists t) old → Goes m.cell old new → TerminalHas m.cell (RegistersHold lists t) new
+  terminal_goes lists old new has goes = goes_has laws.registers m.cell (RegistersHold lists t) old new (takes_on lists) has goes
 
   -- registers from which a purchase takes its number
-  pub takes_begun : (old new : Lists) (set left : RegisterSet) (key : List ℕ) (ksn : Serial) → TakesNumber set key left → ksn ≡ serial_of set → new.owners ≡ old.owners → new.begun ≡ old.begun ++ ksn ∷ []
-      → SetHolds old t set → SetHolds new t left
-  takes_begun old new set left key ksn takes number owners begun holds =
-      holds_left laws.numbers t old new set left key takes holds owners (λ other has.
-      elim (Contains-append_cases old.begun (ksn ∷ []) other (subst (λ list. Contains list other) begun has)) [
+  pub takes_begun : (lists : Lists) (set left : RegisterSet) (key : List ℕ) (ksn : Serial) → TakesNumber set key left → ksn ≡ serial_of set → SetHolds lists t set → SetHolds (with_begun lists ksn) t left
+  takes_begun lists set left key ksn takes number holds =
+      holds_left laws.registers (Contains lists.begun) (Contains (lists.begun ++ ksn ∷ [])) lists.owners t set left key takes (λ other has. elim (Contains-append_cases lists.begun (ksn ∷ []) other has) [
         | inl before ↦ inl before
-        | inr here ↦ inr (subst (λ it. IsBehind it left) (sym (the_only ksn other here ∙ number)) (taken_behind laws.numbers set left key takes))
-      ])
+        | inr here ↦ inr (subst (λ it. IsBehind it left) (sym (the_only ksn other here ∙ number)) (taken_behind laws.registers set left key takes))
+      ]) holds
 
   -- the number that a purchase takes has not begun before
   pub is_fresh : (lists : Lists) (set : RegisterSet) (left : RegisterSet) (key : List ℕ) (ksn : Serial) → TakesNumber set key left → ksn ≡ serial_of set → SetHolds lists t set → ¬ Contains lists.begun ksn
@@ -159,10 +160,10 @@ module _ {C B J I : Type 0} (laws : CallLaws) (m : Meanings C B J I) (t : ℕ) w
       let set : SetHolds lists t it.set = subst (StateHas (RegistersHold lists t)) it.takes.had holds.terminal.state in
       let fresh = is_fresh lists it.set it.left it.key is.ksn it.takes.takes is.terminal.ksn_is set in
       record {
-        terminal = begun laws.registers m.cell (RegistersHold lists t) (RegistersHold after t) purchase is.ksn is.frame old.terminal new.terminal is.terminal holds.terminal
-            (takes_begun lists after it.set it.left it.key is.ksn it.takes.takes is.terminal.ksn_is refl refl);
+        terminal = takes_has laws.registers m.cell (RegistersHold lists t) (RegistersHold after t) old.terminal new.terminal (request_takes m.cell old.terminal new.terminal purchase is.frame it) holds.terminal
+            (takes_begun lists it.set it.left it.key is.ksn it.takes.takes is.terminal.ksn_is);
         book = book_lost laws.reading m.book t after old new (opened is.ksn purchase) why (book_begun m.book t lists is.ksn old holds.book) is.not_kept.not_kept is.not_kept.stopped
-            (begun_fields laws.numbers m.cell purchase is.ksn is.frame old.terminal new.terminal is.terminal)
+            (begun_fields laws.registers m.cell purchase is.ksn is.frame old.terminal new.terminal is.terminal)
             (Contains-push lists.begun is.ksn, λ other sold. fresh (all.asked is.ksn other (all.sold is.ksn other sold).awaited.asked));
         waits = λ ksn amount pending opens_on. absurd (stopped_is_not_running new.state (Some (Open ksn amount)) is.not_kept.stopped opens_on);
         entered = λ ksn amount approved. absurd (stopped_is_not_running new.state (Some (Approved ksn amount)) is.not_kept.stopped approved);
@@ -175,7 +176,7 @@ module _ {C B J I : Type 0} (laws : CallLaws) (m : Meanings C B J I) (t : ℕ) w
   -- a terminal that refuses to begin
   begin_fails : (lists : Lists) (why : TermFault) (old new : TillOf C B) → TillHolds m lists t old → IsAtRest old.state → BeginRefused m.cell old.terminal new.terminal why → SameBook old new → TillHolds m lists t new
   begin_fails lists why old new holds rest is same =
-      with_same_book lists old new holds (begin_refused laws.registers m.cell (RegistersHold lists t) why old.terminal new.terminal (takes_on lists) holds.terminal is) same
+      with_same_book lists old new holds (terminal_goes lists old.terminal new.terminal holds.terminal (begin_goes m.cell old.terminal new.terminal why is)) same
       (λ ksn amount pending opens_on. absurd (not_open_at_rest old.state ksn amount rest (sym same.state_is ∙ opens_on)))
 
   -- where its number is not lost, nothing begins
@@ -192,19 +193,17 @@ module _ {C B J I : Type 0} (laws : CallLaws) (m : Meanings C B J I) (t : ℕ) w
   -- ---- a reversal does not go out
 
   reversal_pends : (reversed : Serial) (why : TermFault) (old new : TerminalOf C) (pending : Pending) → ReversalRefused m.cell reversed old new why → IsPending new.state pending → IsPending old.state pending
-  reversal_pends reversed term_fault.Stopped old new pending is waits = subst (λ it. IsPending it.state pending) is.1 waits
-  reversal_pends reversed term_fault.NotLoaded old new pending is waits = subst (λ it. IsPending it.state pending) is.1 waits
-  reversal_pends reversed term_fault.Spent old new pending is waits = subst (λ it. IsPending it.state pending) is.1 waits
-  reversal_pends reversed term_fault.NotMine old new pending is waits = subst (λ it. IsPending it.state pending) is.1 waits
-  reversal_pends reversed (term_fault.Store why) old new pending is waits = absurd (stopped_pends_nothing new.state pending is.stopped.stops.stopped waits)
-  reversal_pends reversed _ old new pending is waits = absurd is
+  reversal_pends reversed why old new pending is waits = elim (goes_subsides m.cell old new (reversal_goes m.cell old new reversed why is)) [
+    | inl same ↦ still_pending old.state new.state pending same waits
+    | inr idle ↦ absurd (idle pending waits)
+  ]
 
   pub reverse_refused : (lists : Lists) (why : TillFault) (old new : TillOf C B) → TillHolds m lists t old → TillReverseRefused m.cell old new why → TillHolds m lists t new
   reverse_refused lists fault.Stopped old new holds is = stays lists old new holds is.1
   reverse_refused lists fault.NothingOpen old new holds is = stays lists old new holds is.1
   reverse_refused lists (fault.Terminal why) old new holds is =
       let refused = is.0.3 in
-      with_same_book lists old new holds (reversal_refused laws.registers m.cell (RegistersHold lists t) is.0.0 why old.terminal new.terminal (takes_on lists) holds.terminal refused) is.1
+      with_same_book lists old new holds (terminal_goes lists old.terminal new.terminal holds.terminal (reversal_goes m.cell old.terminal new.terminal is.0.0 why refused)) is.1
       (λ ksn amount pending opens_on waits. holds.waits ksn amount pending (sym is.1.state_is ∙ opens_on) (reversal_pends is.0.0 why old.terminal new.terminal pending refused waits))
   reverse_refused lists fault.Open old new holds is = absurd is
   reverse_refused lists (fault.Store why) old new holds is = absurd is
@@ -213,36 +212,26 @@ module _ {C B J I : Type 0} (laws : CallLaws) (m : Meanings C B J I) (t : ℕ) w
 
   pub terminal_armed : (lists : Lists) (old new : TillOf C B) → TillHolds m lists t old → IsTerminalArmed m.cell old new → TillHolds m lists t new
   terminal_armed lists old new holds is =
-      with_same_book lists old new holds (armed laws.registers m.cell (RegistersHold lists t) old.terminal new.terminal holds.terminal is.stays is.terminal) is.same_book
+      with_same_book lists old new holds (terminal_goes lists old.terminal new.terminal holds.terminal (is_armed is.stays is.terminal)) is.same_book
       (λ ksn amount pending opens_on waits. holds.waits ksn amount pending (sym is.same_book.state_is ∙ opens_on) (still_pending old.terminal.state new.terminal.state pending is.terminal waits))
 
   pub book_armed : (lists : Lists) (old new : TillOf C B) → TillHolds m lists t old → IsBookArmed m.book old new → TillHolds m lists t new
   book_armed lists old new holds is =
-      goes_on lists old new holds (unchanged laws.registers m.cell (RegistersHold lists t) old.terminal new.terminal holds.terminal is.terminal) (is.stays.honest.0 holds.book.honest)
+      goes_on lists old new holds (terminal_goes lists old.terminal new.terminal holds.terminal (unmoved is.terminal)) (is.stays.honest.0 holds.book.honest)
       (λ kept found. (is.stays.found holds.book.honest kept).0 found) (inl is.state)
       (λ ksn amount pending opens_on waits. holds.waits ksn amount pending (sym is.state ∙ opens_on) (subst (λ it. IsPending it.state pending) is.terminal waits))
 
   -- ---- a load
 
-  pub till_loaded : (lists : Lists) (asked : Loading) (old new : TillOf C B) → TillHolds m lists t old → IsOwner lists.owners asked.iksn t → IsTillLoaded m.cell asked old new → TillHolds m lists t new
-  till_loaded lists asked old new holds owned is =
+  goes_loaded : (lists : Lists) (asked : Loading) (old new : TillOf C B) → TillHolds m lists t old → IsAtRest old.state → SameBook old new → GoesLoaded m.cell (IsOwner lists.owners asked.iksn t) asked old.terminal new.terminal → TillHolds m lists t new
+  goes_loaded lists asked old new holds rest book goes =
       with_same_book lists old new holds
-      (loaded laws.registers m.cell (RegistersHold lists t) (RegistersHold lists t) asked old.terminal new.terminal is.terminal holds.terminal
-      (λ it set may first has. holds_loaded lists t asked it set may first has owned))
-      is.same_book
-      (λ ksn amount pending opens_on. absurd (not_open_at_rest old.state ksn amount is.was_at_rest (sym is.same_book.state_is ∙ opens_on)))
+      (load_has laws.registers m.cell (RegistersHold lists t) (IsOwner lists.owners asked.iksn t) asked old.terminal new.terminal
+      (λ owned it set may first has. holds_loaded (Contains lists.begun) lists.owners t asked it set owned may first has) holds.terminal goes) book
+      (λ ksn amount pending opens_on. absurd (not_open_at_rest old.state ksn amount rest (sym book.state_is ∙ opens_on)))
 
-  load_fails : (lists : Lists) (asked : Loading) (why : TermFault) (old new : TerminalOf C) → TerminalHas m.cell (RegistersHold lists t) old → ((store : _) → why ≡ term_fault.Store store → IsOwner lists.owners asked.iksn t)
-      → LoadRefused m.cell asked old new why → TerminalHas m.cell (RegistersHold lists t) new
-  load_fails lists asked term_fault.Stopped old new has owned is = unchanged laws.registers m.cell (RegistersHold lists t) old new has is.1
-  load_fails lists asked term_fault.IksnSpent old new has owned is = unchanged laws.registers m.cell (RegistersHold lists t) old new has is.1
-  load_fails lists asked term_fault.LoadsSpent old new has owned is = unchanged laws.registers m.cell (RegistersHold lists t) old new has is.2
-  load_fails lists asked (term_fault.Block why) old new has owned is = unchanged laws.registers m.cell (RegistersHold lists t) old new has is.2
-  load_fails lists asked term_fault.WrongUse old new has owned is = unchanged laws.registers m.cell (RegistersHold lists t) old new has is.2
-  load_fails lists asked (term_fault.Store why) old new has owned is =
-      load_stopped laws.registers m.cell (RegistersHold lists t) (RegistersHold lists t) asked why old new is has (λ it holds. holds)
-      (λ it set may first holds. holds_loaded lists t asked it set may first holds (owned why refl))
-  load_fails lists asked _ old new has owned is = absurd is
+  pub till_loaded : (lists : Lists) (asked : Loading) (old new : TillOf C B) → TillHolds m lists t old → IsOwner lists.owners asked.iksn t → IsTillLoaded m.cell asked old new → TillHolds m lists t new
+  till_loaded lists asked old new holds owned is = goes_loaded lists asked old new holds is.was_at_rest is.same_book (is_loaded owned is.terminal)
 
   pub load_refused : (lists : Lists) (asked : Loading) (why : TillFault) (old new : TillOf C B) → TillHolds m lists t old → ((store : _) → why ≡ fault.Terminal (term_fault.Store store) → IsOwner lists.owners asked.iksn t)
       → TillLoadRefused m.cell asked old new why → TillHolds m lists t new
@@ -250,6 +239,5 @@ module _ {C B J I : Type 0} (laws : CallLaws) (m : Meanings C B J I) (t : ℕ) w
   load_refused lists asked fault.Open old new holds owned is = stays lists old new holds is.1
   load_refused lists asked fault.NothingOpen old new holds owned is = absurd is
   load_refused lists asked (fault.Terminal why) old new holds owned is =
-      with_same_book lists old new holds (load_fails lists asked why old.terminal new.terminal holds.terminal (λ store same. owned store (ap fault.Terminal same)) is.1) is.2
-      (λ ksn amount pending opens_on. absurd (not_open_at_rest old.state ksn amount is.0 (sym is.2.state_is ∙ opens_on)))
+      goes_loaded lists asked old new holds is.0 is.2 (load_goes m.cell old.terminal new.terminal (IsOwner lists.owners asked.iksn t) asked why (λ store why_is. owned store (ap fault.Terminal why_is)) is.1)
   load_refused lists asked (fault.Store why) old new holds owned is = absurd is

@@ -19,13 +19,14 @@ use Rattle.duk_till.specs.declared.state.TillState.{TillState}
 use Rattle.duk_till.specs.declared.state.TillState.TheVariants.{Running}
 use Rattle.duk_tree.specs.Serial.{Serial}
 use Rattle.duk_books.specs.Books.{Frame, Meanings}
-use Rattle.duk_books.specs.Owner.{IsOwner}
+use Rattle.duk_stations.specs.Owner.{IsOwner}
 use Rattle.duk_books.specs.Came.{IsAsked}
-use Rattle.duk_books.proofs.agreement.Facts.{FrameLaws, Lists, asked_or_added, is_asked_now, not_asked, not_called_back}
-use Rattle.duk_books.proofs.agreement.QuietCalls.{CallLaws, ListsHold, begun_fields, is_fresh, not_in_doubt_at_rest, takes_begun}
-use Rattle.duk_books.proofs.agreement.Registers.{RegistersHold, SetHolds, holds_left}
+use Rattle.duk_books.specs.inner.Known.{CallLaws, FrameLaws}
+use Rattle.duk_books.proofs.agreement.Facts.{Lists, asked_or_added, is_asked_now, not_asked, not_called_back}
+use Rattle.duk_books.proofs.agreement.QuietCalls.{ListsHold, begun_fields, is_fresh, not_in_doubt_at_rest, takes_begun, takes_on}
+use Rattle.duk_books.proofs.agreement.Registers.{RegistersHold, SetHolds}
 use Rattle.duk_books.proofs.agreement.TellingCalls.{same_open}
-use Rattle.duk_books.proofs.agreement.Terminals.{StateHas, begun, reversing}
+use Rattle.duk_stations.proofs.Terminals.{StateHas, request_takes, reversal_takes, takes_has}
 use Rattle.duk_books.proofs.agreement.Tills.{IsAwaited, IsInDoubt, TillHolds, book_has, book_put, same_last}
 
 -- the lists once a request was sent, or a reversal
@@ -51,12 +52,12 @@ module _ {C B J I : Type 0} (laws : CallLaws) (frames : FrameLaws) (m : Meanings
       let set : SetHolds lists t it.set = subst (StateHas (RegistersHold lists t)) it.takes.had holds.terminal.state in
       let fresh = is_fresh laws m t lists it.set it.left it.key ksn it.takes.takes is.terminal.ksn_is set in
       let owned : IsOwner lists.owners ksn.iksn t = subst (λ (number : Serial). IsOwner lists.owners number.iksn t) (sym is.terminal.ksn_is) set.owned in
-      let fields = begun_fields laws.numbers m.cell purchase ksn frame.items old.terminal new.terminal is.terminal in
+      let fields = begun_fields laws.registers m.cell purchase ksn frame.items old.terminal new.terminal is.terminal in
       let asked_now : IsAsked after.requests ksn purchase.amount =
       subst (λ (number : Serial). IsAsked after.requests number purchase.amount) number (subst (λ sum. IsAsked after.requests request.ksn sum) amount (is_asked_now frames lists.requests frame request is_request)) in
       record {
-        terminal = begun laws.registers m.cell (RegistersHold lists t) (RegistersHold after t) purchase ksn frame.items old.terminal new.terminal is.terminal holds.terminal
-            (takes_begun laws m t lists after it.set it.left it.key ksn it.takes.takes is.terminal.ksn_is refl refl);
+        terminal = takes_has laws.registers m.cell (RegistersHold lists t) (RegistersHold after t) old.terminal new.terminal (request_takes m.cell old.terminal new.terminal purchase frame.items it) holds.terminal
+            (takes_begun laws m t lists it.set it.left it.key ksn it.takes.takes is.terminal.ksn_is);
         book = book_put laws.reading m.book t after old new (opened ksn purchase) holds.book.honest is.kept is.state_is fields
             (Contains-push lists.begun ksn, λ other sold. fresh (all.asked ksn other (all.sold ksn other sold).awaited.asked));
         waits = λ other sum pending opens_on waits same_number.
@@ -90,8 +91,8 @@ module _ {C B J I : Type 0} (laws : CallLaws) (frames : FrameLaws) (m : Meanings
       let opens_on : new.state ≡ Running (Some (Open is.reversed is.amount)) = is.same_book.state_is ∙ is.was_open in
       let was = holds.book.runs (Some (Open is.reversed is.amount)) is.was_open in
       record {
-        terminal = reversing laws.registers m.cell (RegistersHold lists t) (RegistersHold after t) is.reversed ksn frame.items old.terminal new.terminal is.terminal holds.terminal
-            (λ set. holds_left laws.numbers t lists after is.terminal.set is.terminal.left is.terminal.key is.terminal.takes.takes set refl (λ number has. inl has));
+        terminal = takes_has laws.registers m.cell (RegistersHold lists t) (RegistersHold after t) old.terminal new.terminal (reversal_takes m.cell old.terminal new.terminal is.reversed ksn frame.items is.terminal) holds.terminal
+            (takes_on laws m t lists is.terminal.set is.terminal.left is.terminal.key is.terminal.takes.takes);
         book = book_has laws.reading m.book t after new (Some (Open is.reversed is.amount)) (subst (λ it. (m.book.state_of it).honest) (sym is.same_book.book_is) holds.book.honest)
             (λ kept found. holds.book.only (Some (Open is.reversed is.amount)) is.was_open kept (subst (λ it. (m.book.state_of it).found kept) is.same_book.book_is found)) opens_on was.0 was.1;
         waits = λ other sum pending opens waits number.

@@ -15,9 +15,12 @@ use Rattle.duk_till.specs.Lifetime.{Begin, Reverse}
 use Rattle.duk_till.specs.Till.{TillOf}
 use Rattle.duk_till.specs.declared.last.Last.TheVariants.{Open}
 use Rattle.duk_tree.specs.Serial.{Serial}
-use Rattle.duk_books.specs.Books.{BooksOf, Frame, IsAt, Meanings}
-use Rattle.duk_books.specs.Owner.{IsOwner}
-use Rattle.duk_books.proofs.agreement.BooksHold.{BookLaws, BooksHold, Holds, before_at, begun_owned_too, lists_hold, lists_of, one_till, set_of, tills_after}
+use Rattle.duk_books.specs.Books.{BooksOf, Frame, Meanings}
+use Rattle.duk_stations.specs.Places.{IsAt}
+use Rattle.duk_stations.specs.Owner.{IsOwner}
+use Rattle.duk_books.specs.inner.Known.{BookLaws}
+use Rattle.duk_books.proofs.agreement.BooksHold.{BooksHold, Holds, begun_owned_too, lists_hold, lists_of, one_till, set_of, tills_after}
+use Rattle.duk_stations.proofs.PlacesInLists.{before_at}
 use Rattle.duk_books.specs.Came.{IsAsked}
 use Rattle.duk_books.proofs.agreement.Facts.{GrowBeside, IsSold, Lists, asked_before, asked_or_added, called_back_or_added, not_asked, not_called_back, the_only}
 use Rattle.duk_books.proofs.agreement.HostHolds.{more_requests}

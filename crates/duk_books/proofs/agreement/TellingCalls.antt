@@ -6,16 +6,11 @@ use Rattle.duk_frame.specs.declared.code.Code.TheVariants as code
 use Rattle.duk_frame.specs.Answer.{IsReply}
 use Rattle.duk_reversal.specs.Reply.{IsReversalReply}
 use Rattle.duk_reversal.specs.declared.state.ReversalState.{ReversalState}
-use Rattle.duk_store.specs.Cell.{CellMeaning, IsPut, Kept, PutFailed}
+use Rattle.duk_store.specs.Cell.{IsPut, Kept, PutFailed}
 use Rattle.duk_store.specs.declared.fault.StoreFault.{StoreFault}
-use Rattle.duk_term.specs.Reply.{IsPending}
-use Rattle.duk_term.specs.Restart.{IsTerminalRestarted, Opens}
-use Rattle.duk_regs.specs.Registers.{RegisterSet}
-use Rattle.duk_term.specs.Terminal.{TerminalOf}
+use Rattle.duk_term.specs.Restart.{IsTerminalRestarted}
 use Rattle.duk_term.specs.declared.answer.Answer.TheVariants as answer
 use Rattle.duk_term.specs.declared.answer.ReversalAnswer.TheVariants as reversal
-use Rattle.duk_term.specs.declared.state.Pending.{Pending}
-use Rattle.duk_term.specs.declared.state.State.{State}
 use Rattle.duk_till.specs.History.{IsOf, payment_of}
 use Rattle.duk_till.specs.Image.{kept_of, last_bytes}
 use Rattle.duk_till.specs.Last.{AreLastFields, outcome_of}
@@ -36,10 +31,13 @@ use Rattle.duk_tree.specs.Serial.{IsSerial, Serial}
 use Rattle.duk_books.specs.Books.{Frame, Meanings}
 use Rattle.duk_books.specs.Sales.{TakesSale, sale_of}
 use Rattle.duk_books.specs.declared.sales.Sale.{Sale}
+use Rattle.duk_books.specs.inner.Known.{CallLaws}
 use Rattle.duk_books.proofs.agreement.Facts.{IsRepliedTo, IsSold, IsUndoneBy, Lists}
-use Rattle.duk_books.proofs.agreement.QuietCalls.{CallLaws, loaded_pends_nothing}
+use Rattle.duk_books.proofs.agreement.QuietCalls.{terminal_goes}
 use Rattle.duk_books.proofs.agreement.Registers.{RegistersHold}
-use Rattle.duk_books.proofs.agreement.Terminals.{TerminalHas, completes, restart_refused, restarted, terminal_as}
+use Rattle.duk_stations.specs.inner.Moves.{reopens, waits_no_more}
+use Rattle.duk_stations.proofs.Memory.{opened_is_idle}
+use Rattle.duk_stations.proofs.Terminals.{TerminalHas, restart_goes}
 use Rattle.duk_books.proofs.agreement.Tills.{Fits, IsAwaited, IsInDoubt, IsKeptOf, IsSettled, TillHolds, book_has, book_lost, book_put, book_stays, doubt_lost, doubt_stays, found_fits, one_last, same_last, stopped_is_not_running}
 use Rattle.duk_books.proofs.moves.StepChanges.{IsTelling}
 
@@ -65,14 +63,6 @@ pub approved_entered : (t : ℕ) (old new : List Sale) (state : TillState) (ksn 
     → Contains new (sale_of t (payment_of ksn amount))
 approved_entered t old new state ksn amount takes is =
     entered_now t old new (payment_of ksn amount) (subst (λ (it : TillState). TakesSale old t (approved_in it) new) is takes)
-
--- registers hold whatever was sold
-registers_sales : (lists : Lists) (sales : List Sale) (t : ℕ) (it : Option RegisterSet) → RegistersHold lists t it → RegistersHold (with_sales lists sales) t it
-registers_sales lists sales t None holds = holds
-registers_sales lists sales t (Some set) holds = record { owned = holds.owned; is_set = holds.is_set; behind = holds.behind }
-
-terminal_sales : {C : Type 0} (cell : CellMeaning C) (lists : Lists) (sales : List Sale) (t : ℕ) (terminal : TerminalOf C) → TerminalHas cell (RegistersHold lists t) terminal → TerminalHas cell (RegistersHold (with_sales lists sales) t) terminal
-terminal_sales cell lists sales t terminal has = terminal_as cell (RegistersHold lists t) (RegistersHold (with_sales lists sales) t) terminal (registers_sales lists sales t) has
 
 -- no sale is new where the till has none, or it stood there
 same_entered : (t : ℕ) (old new : List Sale) (payment : Payment) → Contains old (sale_of t payment) → TakesSale old t (Some payment) new → new ≡ old
@@ -135,10 +125,6 @@ some_open last ksn amount state is runs = cc
 
 -- ---- restarts
 
-after_restart : (kept : Kept) (state : State) (pending : Pending) → Opens kept state → ¬ IsPending state pending
-after_restart None state pending opens (set, is) = absurd (cc)
-after_restart (Some body) state pending opens waits = loaded_pends_nothing state _ pending opens.1 waits
-
 none_is_kept : (last : Last) → kept_of None ≡ Some (last_bytes last) → ⊥
 none_is_kept last same = absurd (cc)
 
@@ -200,7 +186,7 @@ module _ {C B J I : Type 0} (laws : CallLaws) (m : Meanings C B J I) (t : ℕ) (
       → old.state ≡ Running (Some (Open ksn amount)) → IsPut m.book old.book new.book (last_bytes last) → new.state ≡ Running (Some last) → AreLastFields last → Fits After t last
       → ((other : Serial) (more : ℕ) → last ≢ Open other more) → IsSettled After t ksn amount → TillHolds m After t new
   told_till old new ksn amount last holds takes terminal opens_on put runs fields fits not_open settles = record {
-    terminal = terminal_sales m.cell lists sales t new.terminal terminal;
+    terminal = terminal;
     book = book_put laws.reading m.book t After old new last holds.book.honest put runs fields fits;
     waits = λ other more pending opens. absurd (not_open other more (some_open last other more new.state runs opens));
     entered = λ other more approved. approved_entered t lists.sales sales new.state other more takes approved;
@@ -229,7 +215,7 @@ module _ {C B J I : Type 0} (laws : CallLaws) (m : Meanings C B J I) (t : ℕ) (
       let replied = replied_to bytes frame why old is.ksn sent same is.reply in
       let fields = outcome_fields is.ksn is.amount why (holds.book.runs (Some (Open is.ksn is.amount)) is.was_open).0 in
       let outcome = outcome_of is.ksn is.amount why in
-      told_till old new is.ksn is.amount outcome holds takes (completes laws.registers m.cell (RegistersHold lists t) old.terminal new.terminal holds.terminal is.terminal) is.was_open is.kept is.state_is fields
+      told_till old new is.ksn is.amount outcome holds takes (terminal_goes laws m t lists old.terminal new.terminal holds.terminal (waits_no_more is.terminal)) is.was_open is.kept is.state_is fields
       (outcome_fits After t is.ksn is.amount why (record { asked = awaited.asked; not_back = awaited.not_back; owned = awaited.owned }) replied) (outcome_not_open is.ksn is.amount why)
       (outcome_settles After t is.ksn is.amount why replied
       (λ approved. approved_entered t lists.sales sales new.state is.ksn is.amount takes (is.state_is ∙ ap (λ (it : Last). Running (Some it)) approved)))
@@ -240,7 +226,7 @@ module _ {C B J I : Type 0} (laws : CallLaws) (m : Meanings C B J I) (t : ℕ) (
       let awaited = holds.waits is.ksn is.amount is.reply.pending is.was_open is.reply.waits is.reply.number_is in
       let replied = replied_to bytes frame is.code old is.ksn sent same is.reply in
       lost_till old new is.ksn is.amount (outcome_of is.ksn is.amount is.code) why holds takes
-      (completes laws.registers m.cell (RegistersHold lists t) old.terminal new.terminal holds.terminal is.terminal) is.was_open is.not_kept.not_kept is.not_kept.stopped
+      (terminal_goes laws m t lists old.terminal new.terminal holds.terminal (waits_no_more is.terminal)) is.was_open is.not_kept.not_kept is.not_kept.stopped
       (outcome_fields is.ksn is.amount is.code (holds.book.runs (Some (Open is.ksn is.amount)) is.was_open).0)
       (outcome_fits lists t is.ksn is.amount is.code awaited replied) (outcome_is_of is.ksn is.amount is.code)
 
@@ -271,13 +257,13 @@ module _ {C B J I : Type 0} (laws : CallLaws) (m : Meanings C B J I) (t : ℕ) (
       → TakesSale lists.sales t (approved_in new.state) sales → IsUndoneKept m.book bytes found old new → TillHolds m After t new
   reversal_kept bytes frame found old new sent same holds takes is =
       let undone = undone_by bytes frame old is.reversed found sent same is.reply in
-      told_till old new is.reversed is.amount (Undone is.reversed) holds takes (completes laws.registers m.cell (RegistersHold lists t) old.terminal new.terminal holds.terminal is.terminal) is.was_open is.kept is.state_is
+      told_till old new is.reversed is.amount (Undone is.reversed) holds takes (terminal_goes laws m t lists old.terminal new.terminal holds.terminal (waits_no_more is.terminal)) is.was_open is.kept is.state_is
       (holds.book.runs (Some (Open is.reversed is.amount)) is.was_open).0.0 undone (undone_not_open is.reversed) (inr (inr undone))
 
   reversal_lost : (bytes : List ℕ) (frame : Frame) (why : StoreFault) (old new : TillOf C B) → Contains lists.answers frame → bytes ≡ frame.items → TillHolds m lists t old
       → TakesSale lists.sales t (approved_in new.state) sales → IsUndoneLost m.book bytes old new why → TillHolds m After t new
   reversal_lost bytes frame why old new sent same holds takes is =
-      lost_till old new is.reversed is.amount (Undone is.reversed) why holds takes (completes laws.registers m.cell (RegistersHold lists t) old.terminal new.terminal holds.terminal is.terminal) is.was_open
+      lost_till old new is.reversed is.amount (Undone is.reversed) why holds takes (terminal_goes laws m t lists old.terminal new.terminal holds.terminal (waits_no_more is.terminal)) is.was_open
       is.not_kept.not_kept is.not_kept.stopped (holds.book.runs (Some (Open is.reversed is.amount)) is.was_open).0.0 (undone_by bytes frame old is.reversed is.found sent same is.reply) refl
 
   pub reversal_reply_refused : (bytes : List ℕ) (frame : Frame) (why : TillFault) (old new : TillOf C B) → Contains lists.answers frame → bytes ≡ frame.items → TillHolds m lists t old
@@ -333,10 +319,10 @@ module _ {C B J I : Type 0} (laws : CallLaws) (m : Meanings C B J I) (t : ℕ) (
       let only = λ (kept : Kept) (finds : (m.book.state_of new.book).found kept). (restart.settles.finds holds.book.honest kept).0 finds in
       let fits = found_fits laws.reading m.book t lists old new last holds.book found in
       record {
-        terminal = terminal_sales m.cell lists sales t new.terminal (restarted laws.registers m.cell (RegistersHold lists t) old.terminal new.terminal holds.terminal terminal);
+        terminal = terminal_goes laws m t lists old.terminal new.terminal holds.terminal (reopens terminal);
         book = book_has laws.reading m.book t After new last (restart.settles.nature.honest.0 holds.book.honest) only runs found.fields
             (found_fits_after last (subst (λ (it : TillState). TakesSale lists.sales t (approved_in it) sales) runs takes) fits);
-        waits = λ ksn amount pending opens_on waits. absurd (after_restart terminal.kept new.terminal.state pending terminal.opens waits);
+        waits = λ ksn amount pending opens_on waits. absurd (opened_is_idle terminal.kept new.terminal.state terminal.opens pending waits);
         entered = λ ksn amount approved. approved_entered t lists.sales sales new.state ksn amount takes approved;
         known = λ ksn amount asked owned. elim (holds.known ksn amount asked owned) [
           | inl settled ↦ inl (settled_after ksn amount (approved_in new.state) takes settled)
@@ -345,14 +331,14 @@ module _ {C B J I : Type 0} (laws : CallLaws) (m : Meanings C B J I) (t : ℕ) (
       }
 
   terminal_up : (old new : TillOf C B) → TillHolds m lists t old → IsTerminalRestarted m.cell old.terminal new.terminal → TerminalHas m.cell (RegistersHold lists t) new.terminal
-  terminal_up old new holds is = restarted laws.registers m.cell (RegistersHold lists t) old.terminal new.terminal holds.terminal is
+  terminal_up old new holds is = terminal_goes laws m t lists old.terminal new.terminal holds.terminal (reopens is)
 
   restart_done : (old new : TillOf C B) → TillHolds m lists t old → TakesSale lists.sales t (approved_in new.state) sales → IsTillRestarted m.cell m.book old new → TillHolds m After t new
   restart_done old new holds takes is = restart_finds old new is.last holds takes is.terminal is.found is.state_is
 
   pub restart_refused_so : (old new : TillOf C B) (why : TillFault) → TillHolds m lists t old → TakesSale lists.sales t (approved_in new.state) sales → TillRestartRefused m.cell m.book old new why → TillHolds m After t new
   restart_refused_so old new (fault.Terminal why) holds takes is =
-      stopped_till old new holds takes (restart_refused laws.registers m.cell (RegistersHold lists t) why old.terminal new.terminal holds.terminal is.0)
+      stopped_till old new holds takes (terminal_goes laws m t lists old.terminal new.terminal holds.terminal (restart_goes m.cell old.terminal new.terminal why is.0))
       (subst (λ it. (m.book.state_of it).honest) (sym is.1) holds.book.honest) (λ kept found. subst (λ it. (m.book.state_of it).found kept) is.1 found) is.2
   restart_refused_so old new (fault.Store why) holds takes is =
       let terminal = terminal_up old new holds is.0 in

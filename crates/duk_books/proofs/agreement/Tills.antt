@@ -1,5 +1,5 @@
 -- What holds of each till beside what was sent, answered and sold.
-use Rattle.std.proofs.Common.{◌≡◌, ◌≢◌, ◌⊎◌, inl, inr, ℕ, List, Option, Some, None, IfSome, Contains, ap, refl, subst, sym, ◌∙◌}
+use Rattle.std.proofs.Common.{◌≡◌, ◌≢◌, ◌⊎◌, inl, inr, ℕ, Option, Some, None, IfSome, Contains, ap, refl, subst, sym, ◌∙◌}
 use Rattle.duk_frame.specs.declared.code.Code.{Code}
 use Rattle.duk_frame.specs.declared.code.Code.TheVariants as code
 use Rattle.duk_store.specs.Cell.{CellMeaning, IsPut, Kept, PutFailed}
@@ -7,7 +7,7 @@ use Rattle.duk_store.specs.declared.fault.StoreFault.{StoreFault}
 use Rattle.duk_term.specs.Reply.{IsPending}
 use Rattle.duk_term.specs.declared.state.Pending.{Pending}
 use Rattle.duk_till.specs.History.{IsOf, payment_of}
-use Rattle.duk_till.specs.Image.{IsLastBody, kept_of, last_bytes}
+use Rattle.duk_till.specs.Image.{kept_of, last_bytes}
 use Rattle.duk_till.specs.Last.{AreLastFields}
 use Rattle.duk_till.specs.Restart.{FoundLast}
 use Rattle.duk_till.specs.Till.{TillOf}
@@ -17,15 +17,12 @@ use Rattle.duk_till.specs.declared.state.TillState.{TillState}
 use Rattle.duk_till.specs.declared.state.TillState.TheVariants.{Stopped, Running}
 use Rattle.duk_tree.specs.Serial.{Serial}
 use Rattle.duk_books.specs.Books.{Meanings}
-use Rattle.duk_books.specs.Owner.{IsOwner}
+use Rattle.duk_stations.specs.Owner.{IsOwner}
 use Rattle.duk_books.specs.Came.{IsAsked}
+use Rattle.duk_books.specs.inner.Known.{OneReading}
 use Rattle.duk_books.proofs.agreement.Facts.{GrowBeside, IsCalledBack, IsRepliedTo, IsSold, IsUndoneBy, Lists}
 use Rattle.duk_books.proofs.agreement.Registers.{RegistersHold, registers_beside}
-use Rattle.duk_books.proofs.agreement.Terminals.{TerminalHas, found_then, stays_honest, terminal_as}
-
--- bytes are the body of at most one last purchase
-abbrev pub OneReading : Type 0
-OneReading = (body : List ℕ) (one other : Last) → IsLastBody body one → IsLastBody body other → one ≡ other
+use Rattle.duk_stations.proofs.Terminals.{TerminalHas, found_then, stays_honest, terminal_as}
 
 -- ---- what is known of a payment
 

@@ -1,7 +1,7 @@
 -- What stands in the merchants' book was told, and what was told stands there.
-use Rattle.std.proofs.Common.{◌≡◌, ◌⊎◌, ◌++◌, ◌∷◌, [], ℕ, List, Option, Some, None, Contains, inl, inr, refl, sym, ap, subst, ◌∙◌}
+use Rattle.std.proofs.Common.{◌≡◌, ◌⊎◌, ◌++◌, ◌∷◌, [], ℕ, List, Some, None, Contains, inl, inr, refl, sym, ap, subst, ◌∙◌}
 use Rattle.std.proofs.lemmas.List.Elements.{Contains-append_cases, Contains-append_left, Contains-append_right}
-use Rattle.duk_frame.specs.Answer.{IsAnswer, IsReply}
+use Rattle.duk_frame.specs.Answer.{IsAnswer}
 use Rattle.duk_frame.specs.declared.answer.AnswerFrame.{AnswerFrame}
 use Rattle.duk_frame.specs.declared.answer.AnswerFrame.TheVariants as answer_frame
 use Rattle.duk_frame.specs.declared.code.Code.{Code}
@@ -22,16 +22,16 @@ use Rattle.duk_till.specs.declared.state.TillState.TheVariants.{Stopped, Running
 use Rattle.duk_tree.specs.Serial.{Serial}
 use Rattle.duk_books.specs.Arm.{ArmsHost, ArmsTill, ArmsTillBook, ArmsTerminalCell}
 use Rattle.duk_books.specs.Begin.{Begins}
-use Rattle.duk_books.specs.Books.{BooksOf, ChangesOnly, FindsNoTill, Frame, IsAt, Meanings}
+use Rattle.duk_books.specs.Books.{BooksOf, FindsNoTill, Frame, Meanings}
 use Rattle.duk_books.specs.CallLeads.{CallLeads}
 use Rattle.duk_books.specs.Down.{TakesAnswer, TakesReply, TakesReversalReply}
 use Rattle.duk_books.specs.Load.{TakesLoad}
 use Rattle.duk_books.specs.Reached.{IsLeft, Reached}
 use Rattle.duk_books.specs.Restart.{RestartsHost, TakesRestart}
 use Rattle.duk_books.specs.Reverse.{Reverses}
-use Rattle.duk_books.specs.Sales.{EntersSale, TakesSale, sale_of}
+use Rattle.duk_books.specs.Sales.{TakesSale, sale_of}
 use Rattle.duk_books.specs.Step.{Step}
-use Rattle.duk_books.specs.Told.{HasWhatWasTold, IsSoldUnder, IsToldApproved, TellsApproved, TellsPayment}
+use Rattle.duk_books.specs.Told.{HasWhatWasTold, IsToldApproved, TellsApproved, TellsPayment}
 use Rattle.duk_books.specs.Up.{ReachesHost}
 use Rattle.duk_books.specs.declared.event.End.{End}
 use Rattle.duk_books.specs.declared.event.End.TheVariants as end
@@ -40,8 +40,9 @@ use Rattle.duk_books.specs.declared.event.Event.TheVariants as event
 use Rattle.duk_books.specs.declared.outcome.Outcome.{Outcome}
 use Rattle.duk_books.specs.declared.outcome.Outcome.TheVariants as came
 use Rattle.duk_books.specs.declared.sales.Sale.{Sale}
+use Rattle.duk_books.specs.inner.Known.{BookLaws}
 use Rattle.duk_books.proofs.agreement.Agreement.{reached_holds}
-use Rattle.duk_books.proofs.agreement.BooksHold.{BookLaws, before_at}
+use Rattle.duk_stations.proofs.PlacesInLists.{before_at}
 use Rattle.duk_books.proofs.agreement.Facts.{none_in, the_one, the_only}
 use Rattle.duk_books.proofs.agreement.TellingCalls.{approved_entered, sales_stay}
 use Rattle.duk_books.proofs.accepted.RepliedBefore.{same_ksn}

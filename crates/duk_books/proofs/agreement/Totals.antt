@@ -18,20 +18,22 @@ use Rattle.duk_till.specs.declared.last.Payment.{Payment}
 use Rattle.duk_till.specs.declared.state.TillState.TheVariants.{Running}
 use Rattle.duk_tree.specs.Serial.{Serial}
 use Rattle.duk_books.specs.Agree.{StandsOf}
-use Rattle.duk_books.specs.Books.{BooksOf, HasOne, IsAt, Meanings}
-use Rattle.duk_books.specs.Owner.{IsOwner, Owns}
+use Rattle.duk_books.specs.Books.{BooksOf, Meanings}
+use Rattle.duk_stations.specs.Places.{HasOne, IsAt}
+use Rattle.duk_stations.specs.Owner.{IsOwner, Owns}
 use Rattle.duk_books.specs.Reached.{Reached}
 use Rattle.duk_books.specs.Sales.{sale_of}
 use Rattle.duk_books.specs.Totals.{TotalsAgree, is_sale_of, open_amount, told_total, whole_told_total}
 use Rattle.duk_books.specs.declared.sales.Sale.{Sale}
+use Rattle.duk_books.specs.inner.Known.{BookLaws}
 use Rattle.duk_books.proofs.agreement.Agreement.{agrees, asked_for, entries_hold, reached_holds, standing_told, told_stand}
-use Rattle.duk_books.proofs.agreement.BooksHold.{BookLaws, BooksHold, Holds, lists_of}
+use Rattle.duk_books.proofs.agreement.BooksHold.{BooksHold, Holds, lists_of}
 use Rattle.duk_books.proofs.agreement.Facts.{none_in}
 use Rattle.duk_books.proofs.agreement.HostHolds.{EntriesHold}
 use Rattle.duk_books.proofs.agreement.OwnersAreTills.{owners_are_tills}
 use Rattle.duk_books.proofs.agreement.SumsCompared.{Covers, at_front, behind, from_filter, front_or, in_filter, sum_covered}
 use Rattle.duk_books.proofs.agreement.Tills.{Fits}
-use Rattle.duk_books.proofs.moves.StepChanges.{at_contains}
+use Rattle.duk_stations.proofs.PlacesInLists.{at_contains}
 
 -- what entries add to a total
 pub record TotalLaws : Type 0 where

@@ -1,27 +1,21 @@
 -- Where all stores are sound and calm, restarts bring up the host and the tills that are there.
-use Rattle.std.proofs.Common.{◌≡◌, ◌≢◌, ◌⊎◌, ◌<◌, ◌∷◌, [], ℕ, List, length, inl, inr, refl, sym, ap, subst, ◌∙◌, arith}
+use Rattle.std.proofs.Common.{◌≡◌, ◌≢◌, ◌⊎◌, ◌<◌, ◌∷◌, [], ℕ, List, length, inl, inr, refl, sym, ap, subst}
 use Rattle.std.specs.List.{All}
-use Rattle.std.proofs.lemmas.List.{length-set}
 use Rattle.std.proofs.lemmas.List.Elements.{All-cons, All-head, All-nil, All-tail}
 use Rattle.std.proofs.Math.ListN.{get_or}
 use Rattle.duk_host.specs.declared.fault.HostFault.{HostFault}
 use Rattle.duk_host.specs.declared.fault.HostFault.TheVariants as host_fault
 use Rattle.duk_journal_host.specs.Host.{HostOf}
 use Rattle.duk_journal_host.specs.Restart.{HostRestartRefused}
-use Rattle.duk_store.specs.Restart.{IsRestartFault}
-use Rattle.duk_store.specs.StoreState.{StoreState}
 use Rattle.duk_store.specs.declared.fault.StoreFault.{StoreFault}
 use Rattle.duk_store.specs.declared.fault.StoreFault.TheVariants as store_fault
-use Rattle.duk_term.specs.Restart.{TerminalRestartRefused}
-use Rattle.duk_term.specs.Terminal.{TerminalOf}
-use Rattle.duk_term.specs.declared.fault.TermFault.{TermFault}
-use Rattle.duk_term.specs.declared.fault.TermFault.TheVariants as term_fault
 use Rattle.duk_till.specs.Restart.{TillRestartRefused}
 use Rattle.duk_till.specs.Till.{TillOf}
 use Rattle.duk_till.specs.declared.fault.TillFault.{TillFault}
 use Rattle.duk_till.specs.declared.fault.TillFault.TheVariants as fault
-use Rattle.duk_books.specs.Books.{BooksOf, ChangesOnly, HasNone, HasOne, Meanings}
-use Rattle.duk_books.specs.Calm.{HasSoundStores, IsBookFault, IsCalmAt, IsCellFault, IsJournalFault, IsRestartEvent, IsTerminalFault, ReportsArming, ReportsBroughtUp}
+use Rattle.duk_books.specs.Books.{BooksOf, Meanings}
+use Rattle.duk_stations.specs.Places.{ChangesOnly}
+use Rattle.duk_books.specs.Calm.{HasSoundStores, IsBookFault, IsCalmAt, IsJournalFault, IsRestartEvent, IsTerminalFault, ReportsArming, ReportsBroughtUp}
 use Rattle.duk_books.specs.Reached.{Reached}
 use Rattle.duk_books.specs.Restart.{RestartsHost, TakesRestart}
 use Rattle.duk_books.specs.Run.{Run}
@@ -32,36 +26,14 @@ use Rattle.duk_books.specs.declared.event.Event.{Event}
 use Rattle.duk_books.specs.declared.event.Event.TheVariants as event
 use Rattle.duk_books.specs.declared.outcome.Outcome.{Outcome}
 use Rattle.duk_books.specs.declared.outcome.Outcome.TheVariants as came
-use Rattle.duk_books.proofs.agreement.BooksHold.{before_at}
+use Rattle.duk_stations.proofs.PlacesInLists.{as_many, before_at, not_missing}
+use Rattle.duk_stations.proofs.StoreFaults.{restart_reports, two_faults}
 use Rattle.duk_books.proofs.calm_stores.CalmSteps.{StepFacts}
 use Rattle.duk_books.proofs.calm_stores.CalmStores.{reached_facts}
 use Rattle.duk_books.proofs.calm_stores.KnownStores.{KnownStores, KnownTill, StoreLaws, reached_stores}
 use Rattle.duk_books.proofs.moves.ReachedByMoves.{reached_step}
 
--- as many tills, as a till is restarted
-as_many : {A : Type 0} (t : ℕ) (P : A → A → Type 0) (old new : List A) → ChangesOnly t P old new → length new ≡ length old
-as_many t P old new acts = ap length acts.others ∙ length-set old acts.place acts.after
-
--- one that is there is not missing
-pub not_missing : {A : Type 0} (things : List A) (number : ℕ) → HasOne things number → ¬ HasNone things number
-not_missing things number one (inl none) = omega (arith, none, one.number_is)
-not_missing things number one (inr past) = omega (arith, past, one.number_is, one.within)
-
 -- ---- which fault a restart reports
-
--- the fault of a store's restart is one of two
-two_faults : {V : Type 0} (old new : StoreState V) (why : StoreFault) → IsRestartFault old new why → (why ≡ store_fault.Device) ⊎ (why ≡ store_fault.Damaged)
-two_faults old new store_fault.Device is = inl refl
-two_faults old new store_fault.Damaged is = inr refl
-two_faults old new _ is = absurd is
-
--- a terminal's refusal to restart is one of the two of its cell
-terminal_reports : {C B J I : Type 0} (m : Meanings C B J I) (before after : TerminalOf C) (why : TermFault) → TerminalRestartRefused m.cell before after why → IsCellFault why store_fault.Device ⊎ IsCellFault why store_fault.Damaged
-terminal_reports m before after (term_fault.Store why) refused = elim refused.cause [
-  | inl failed ↦ two_faults (m.cell.state_of before.cell) (m.cell.state_of after.cell) why failed.fault_is
-  | inr (damaged, none) ↦ inr damaged
-]
-terminal_reports m before after _ refused = absurd refused
 
 module _ {C B J I : Type 0} (m : Meanings C B J I) (before after : TillOf C B) (known : KnownTill m before) where
   -- that of the book is one of the two of the book
@@ -72,7 +44,7 @@ module _ {C B J I : Type 0} (m : Meanings C B J I) (before after : TillOf C B) (
   -- a till's refusal to restart is one of those of its two cells
   till_reports : (why : TillFault) → TillRestartRefused m.cell m.book before after why
       → (IsTerminalFault why store_fault.Device ⊎ IsTerminalFault why store_fault.Damaged) ⊎ (IsBookFault why store_fault.Device ⊎ IsBookFault why store_fault.Damaged)
-  till_reports (fault.Terminal why) refused = inl (terminal_reports m before.terminal after.terminal why refused.0)
+  till_reports (fault.Terminal why) refused = inl (restart_reports m.cell before.terminal after.terminal why refused.0)
   till_reports (fault.Store why) refused = inr (book_reports why refused)
   till_reports _ refused = absurd refused
 

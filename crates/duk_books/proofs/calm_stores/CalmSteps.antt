@@ -15,7 +15,8 @@ use Rattle.duk_till.specs.Till.{TillOf}
 use Rattle.duk_till.specs.declared.fault.TillFault.{TillFault}
 use Rattle.duk_books.specs.Arm.{ArmsHost, ArmsTerminalCell, ArmsTill, ArmsTillBook}
 use Rattle.duk_books.specs.Begin.{Begins}
-use Rattle.duk_books.specs.Books.{BooksOf, ChangesOnly, Frame, IsAt, Meanings}
+use Rattle.duk_books.specs.Books.{BooksOf, Frame, Meanings}
+use Rattle.duk_stations.specs.Places.{ChangesOnly, IsAt}
 use Rattle.duk_books.specs.Calm.{HasSoundCells, HasSoundStores, IsCalmAt, ReportsArming, ReportsFault, ReportsNoDamage}
 use Rattle.duk_books.specs.Down.{TakesAnswer, TakesReply, TakesReversalReply}
 use Rattle.duk_books.specs.Load.{TakesLoad}
@@ -30,13 +31,13 @@ use Rattle.duk_books.specs.declared.event.Event.{Event}
 use Rattle.duk_books.specs.declared.event.Event.TheVariants as event
 use Rattle.duk_books.specs.declared.outcome.Outcome.{Outcome}
 use Rattle.duk_books.specs.declared.outcome.Outcome.TheVariants as came
-use Rattle.duk_books.proofs.agreement.BooksHold.{after_at, before_at}
+use Rattle.duk_stations.proofs.PlacesInLists.{after_at, before_at}
 use Rattle.duk_books.proofs.calm_stores.HostCalls.{RefusesHost, not_answered, restart_refused as host_restart_refused}
 use Rattle.duk_books.proofs.calm_stores.KnownStores.{KnownStores, KnownTill}
-use Rattle.duk_books.proofs.calm_stores.StoreFaults.{PreservesCalm, Spares, nature_kept, none_reported}
+use Rattle.duk_stations.proofs.StoreFaults.{PreservesCalm, Spares, nature_kept, none_reported}
 use Rattle.duk_books.proofs.calm_stores.TillCalls.{PreservesCells, RefusesTill, begin_refused, begun, book_armed, load_refused, loaded, reply_refused, restart_refused, restarted, reversal_reply_refused, reversal_told, reverse_refused, reversing, terminal_armed, told}
-use Rattle.duk_books.proofs.moves.PlacesInLists.{all_at}
-use Rattle.duk_books.proofs.moves.StepChanges.{at_contains}
+use Rattle.duk_stations.proofs.PlacesInLists.{all_at}
+use Rattle.duk_stations.proofs.PlacesInLists.{at_contains}
 
 -- what a step does to sound and calm stores, and which faults it reports
 pub record StepFacts {C B J I : Type 0} (m : Meanings C B J I) (old : BooksOf C B J I) (outcome : Outcome) (new : BooksOf C B J I) : Type 0 where

@@ -3,14 +3,30 @@
 use Rattle.std.proofs.Common.{◌∷◌, [], ℕ, List, inl, inr}
 use Rattle.duk_host.specs.declared.fault.HostFault.{HostFault}
 use Rattle.duk_host.specs.declared.fault.HostFault.TheVariants as host_fault
+use Rattle.duk_journal.specs.Groups.{Entries}
+use Rattle.duk_journal.specs.Journal.{JournalMeaning}
 use Rattle.duk_journal.specs.Standing.{UseNewNumbers}
 use Rattle.duk_journal_host.specs.Group.{GroupRefused, IsGroupNotKept}
 use Rattle.duk_journal_host.specs.Host.{HostMeaning, HostOf}
 use Rattle.duk_journal_host.specs.Restart.{HostRestartRefused}
+use Rattle.duk_store.specs.Listed.{GroupAppendFailed}
 use Rattle.duk_store.specs.declared.fault.StoreFault.{StoreFault}
+use Rattle.duk_store.specs.declared.fault.StoreFault.TheVariants.{Device, Stopped}
 use Rattle.duk_books.specs.Calm.{IsJournalFault}
-use Rattle.duk_books.proofs.calm_stores.StoreFaults.{FailsSpared, PreservesCalm, Spares, append_failed, found_wrong, nature_kept, none_reported, restart_failed, same_kept}
+use Rattle.duk_stations.proofs.StoreFaults.{FailsSpared, PreservesCalm, Spares, device_spared, found_wrong, is_neither, nature_kept, none_reported, restart_failed, same_kept}
 use Rattle.duk_books.proofs.moves.HostFinds.{HostFinds}
+
+-- an append that failed
+append_failed : {J : Type 0} (journal : JournalMeaning J) (old new : J) (group : Entries) (why : StoreFault) → GroupAppendFailed journal old new group why → FailsSpared (journal.state_of old) (journal.state_of new) why
+append_failed journal old new group Device failed = record {
+  keeps = nature_kept (journal.state_of old) (journal.state_of new) failed.stops.nature;
+  spares = device_spared (journal.state_of old) (λ calm. failed.failure (failed.stops.quiet calm));
+}
+append_failed journal old new group Stopped failed = record {
+  keeps = nature_kept (journal.state_of old) (journal.state_of new) failed.stays.nature;
+  spares = is_neither (journal.state_of old) Stopped (λ same. cc) (λ same. cc);
+}
+append_failed journal old new group _ failed = absurd failed
 
 -- what a host's refusal leaves of its journal's nature, and which faults of its journal it reports
 pub record RefusesHost {J I : Type 0} (meaning : HostMeaning J I) (before after : HostOf J I) (why : HostFault) : Type 0 where

@@ -4,15 +4,17 @@ use Rattle.std.proofs.Common.{ℕ, Some}
 use Rattle.std.proofs.lemmas.List.Elements.{All-contains}
 use Rattle.duk_journal.specs.Standing.{UseNewNumbers}
 use Rattle.duk_till.specs.Till.{TillOf}
-use Rattle.duk_books.specs.Books.{BooksOf, IsAt, Meanings}
+use Rattle.duk_books.specs.Books.{BooksOf, Meanings}
+use Rattle.duk_stations.specs.Places.{IsAt}
 use Rattle.duk_books.specs.Images.{FindLast, FindsLast}
 use Rattle.duk_books.specs.NoUsedKey.{InEachTill, NoUsedKey}
 use Rattle.duk_books.specs.Reached.{Reached}
+use Rattle.duk_books.specs.inner.Known.{BookLaws}
 use Rattle.duk_books.proofs.accepted.EndsOnce.{reached_hold}
-use Rattle.duk_books.proofs.agreement.BooksHold.{BookLaws}
-use Rattle.duk_books.proofs.calm_stores.TillCalls.{FindsBodies, FindsLasts}
+use Rattle.duk_stations.proofs.StoreFaults.{FindsBodies}
+use Rattle.duk_books.proofs.calm_stores.TillCalls.{FindsLasts}
 use Rattle.duk_books.proofs.moves.HostFinds.{HostFinds}
-use Rattle.duk_books.proofs.moves.StepChanges.{at_contains}
+use Rattle.duk_stations.proofs.PlacesInLists.{at_contains}
 
 -- the cells of a till are honest, the terminal's finds only bodies of a terminal, and the book only
 -- bodies of last purchases

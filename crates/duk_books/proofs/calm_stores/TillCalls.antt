@@ -3,13 +3,7 @@
 use Rattle.std.proofs.Common.{◌≡◌, ℕ, List, Some, inl, inr}
 use Rattle.duk_store.specs.Cell.{CellMeaning}
 use Rattle.duk_store.specs.declared.fault.StoreFault.{StoreFault}
-use Rattle.duk_term.specs.Begin.{BeginRefused}
-use Rattle.duk_term.specs.Body.{IsTerminalBody}
-use Rattle.duk_term.specs.Load.{LoadRefused, Loading}
-use Rattle.duk_term.specs.Reply.{ReplyRefused}
-use Rattle.duk_term.specs.Restart.{TerminalRestartRefused}
-use Rattle.duk_term.specs.Reversal.{ReversalRefused, ReversalReplyRefused}
-use Rattle.duk_term.specs.Terminal.{TerminalOf}
+use Rattle.duk_term.specs.Load.{Loading}
 use Rattle.duk_term.specs.declared.answer.Answer.{Answer}
 use Rattle.duk_term.specs.declared.answer.Answer.TheVariants as answer
 use Rattle.duk_term.specs.declared.answer.ReversalAnswer.{ReversalAnswer}
@@ -30,76 +24,8 @@ use Rattle.duk_till.specs.declared.fault.TillFault.{TillFault}
 use Rattle.duk_till.specs.declared.fault.TillFault.TheVariants as fault
 use Rattle.duk_till.specs.declared.last.Last.{Last}
 use Rattle.duk_tree.specs.Serial.{Serial}
-use Rattle.duk_books.specs.Calm.{IsBookFault, IsCellFault, IsTerminalFault}
-use Rattle.duk_books.proofs.calm_stores.StoreFaults.{FailsSpared, PreservesCalm, Spares, found_wrong, nature_kept, none_reported, put_failed, restart_failed, same_kept}
-
--- ---- the terminal's cell
-
--- what a terminal's refusal leaves of its cell's nature, and which faults of its cell it reports
-record RefusesTerminal {C : Type 0} (cell : CellMeaning C) (before after : TerminalOf C) (why : TermFault) : Type 0 where
-  keeps : PreservesCalm (cell.state_of before.cell) (cell.state_of after.cell)
-  spares : Spares (cell.state_of before.cell) (λ reported. IsCellFault why reported)
-
--- the cell's fault is reported
-cell_refuses : {C : Type 0} (cell : CellMeaning C) (before after : TerminalOf C) (why : StoreFault) → FailsSpared (cell.state_of before.cell) (cell.state_of after.cell) why
-    → RefusesTerminal cell before after (term_fault.Store why)
-cell_refuses cell before after why fails = record { keeps = fails.keeps; spares = fails.spares }
-
--- nothing changes, and the cell has no fault
-same_terminal : {C : Type 0} (cell : CellMeaning C) (before after : TerminalOf C) (why : TermFault) → after ≡ before → ((reported : StoreFault) → ¬ IsCellFault why reported) → RefusesTerminal cell before after why
-same_terminal cell before after why same none =
-    record { keeps = rw same (same_kept (cell.state_of before.cell)); spares = none_reported (cell.state_of before.cell) (λ reported. IsCellFault why reported) none }
-
-terminal_load_refused : {C : Type 0} (cell : CellMeaning C) (asked : Loading) (before after : TerminalOf C) (why : TermFault) → LoadRefused cell asked before after why → RefusesTerminal cell before after why
-terminal_load_refused cell asked before after term_fault.Stopped refused = same_terminal cell before after term_fault.Stopped refused.1 (λ reported is. is)
-terminal_load_refused cell asked before after term_fault.IksnSpent refused = same_terminal cell before after term_fault.IksnSpent refused.1 (λ reported is. is)
-terminal_load_refused cell asked before after term_fault.LoadsSpent refused = same_terminal cell before after term_fault.LoadsSpent refused.2 (λ reported is. is)
-terminal_load_refused cell asked before after (term_fault.Block block) refused = same_terminal cell before after (term_fault.Block block) refused.2 (λ reported is. is)
-terminal_load_refused cell asked before after term_fault.WrongUse refused = same_terminal cell before after term_fault.WrongUse refused.2 (λ reported is. is)
-terminal_load_refused cell asked before after (term_fault.Store why) refused = cell_refuses cell before after why (put_failed cell before.cell after.cell _ why refused.stops.not_kept)
-terminal_load_refused cell asked before after _ refused = absurd refused
-
-terminal_begin_refused : {C : Type 0} (cell : CellMeaning C) (before after : TerminalOf C) (why : TermFault) → BeginRefused cell before after why → RefusesTerminal cell before after why
-terminal_begin_refused cell before after term_fault.Stopped refused = same_terminal cell before after term_fault.Stopped refused.1 (λ reported is. is)
-terminal_begin_refused cell before after term_fault.NotLoaded refused = same_terminal cell before after term_fault.NotLoaded refused.1 (λ reported is. is)
-terminal_begin_refused cell before after term_fault.Spent refused = same_terminal cell before after term_fault.Spent refused.1 (λ reported is. is)
-terminal_begin_refused cell before after (term_fault.Store why) refused = cell_refuses cell before after why (put_failed cell before.cell after.cell _ why refused.stops.not_kept)
-terminal_begin_refused cell before after _ refused = absurd refused
-
-terminal_reversal_refused : {C : Type 0} (cell : CellMeaning C) (reversed : Serial) (before after : TerminalOf C) (why : TermFault) → ReversalRefused cell reversed before after why → RefusesTerminal cell before after why
-terminal_reversal_refused cell reversed before after term_fault.Stopped refused = same_terminal cell before after term_fault.Stopped refused.1 (λ reported is. is)
-terminal_reversal_refused cell reversed before after term_fault.NotLoaded refused = same_terminal cell before after term_fault.NotLoaded refused.1 (λ reported is. is)
-terminal_reversal_refused cell reversed before after term_fault.Spent refused = same_terminal cell before after term_fault.Spent refused.1 (λ reported is. is)
-terminal_reversal_refused cell reversed before after term_fault.NotMine refused = same_terminal cell before after term_fault.NotMine refused.1 (λ reported is. is)
-terminal_reversal_refused cell reversed before after (term_fault.Store why) refused = cell_refuses cell before after why (put_failed cell before.cell after.cell _ why refused.stopped.stops.not_kept)
-terminal_reversal_refused cell reversed before after _ refused = absurd refused
-
--- bytes that are refused have no fault of the cell
-no_reply_fault : (state : State) (bytes : List ℕ) (why : TermFault) (reported : StoreFault) → ReplyRefused state bytes why → ¬ IsCellFault why reported
-no_reply_fault state bytes (term_fault.Store why) reported refused is = absurd refused
-no_reply_fault state bytes _ reported refused is = is
-
-no_reversal_fault : (state : State) (reversed : Serial) (bytes : List ℕ) (why : TermFault) (reported : StoreFault) → ReversalReplyRefused state reversed bytes why → ¬ IsCellFault why reported
-no_reversal_fault state reversed bytes (term_fault.Store why) reported refused is = absurd refused
-no_reversal_fault state reversed bytes _ reported refused is = is
-
--- another fault than the cell's
-no_cell_fault : (why other : TermFault) → why ≡ other → ((reported : StoreFault) → ¬ IsCellFault other reported) → (reported : StoreFault) → ¬ IsCellFault why reported
-no_cell_fault why other same none = rw same none
-
--- a cell finds no bytes but bodies of a terminal
-abbrev pub FindsBodies : {C : Type 0} → CellMeaning C → C → Type 0
-FindsBodies cell at = (bytes : List ℕ) → (cell.state_of at).found (Some bytes) → IsTerminalBody bytes
-
-terminal_restart_refused : {C : Type 0} (cell : CellMeaning C) (before after : TerminalOf C) (why : TermFault) → FindsBodies cell before.cell → TerminalRestartRefused cell before after why → RefusesTerminal cell before after why
-terminal_restart_refused cell before after (term_fault.Store why) bodies refused = cell_refuses cell before after why (elim refused.cause [
-  | inl failed ↦ restart_failed (cell.state_of before.cell) (cell.state_of after.cell) why failed
-  | inr (damaged, none) ↦ found_wrong (cell.state_of before.cell) (cell.state_of after.cell) why damaged none.cell.settles.nature
-      (λ honest sound. none.no_body (bodies none.bytes (none.cell.was_found honest)))
-])
-terminal_restart_refused cell before after _ bodies refused = absurd refused
-
--- ---- both cells
+use Rattle.duk_books.specs.Calm.{IsBookFault, IsTerminalFault}
+use Rattle.duk_stations.proofs.StoreFaults.{FailsSpared, FindsBodies, PreservesCalm, RefusesTerminal, Spares, found_wrong, nature_kept, no_cell_fault, no_reply_fault, no_reversal_fault, none_reported, put_failed, restart_failed, same_kept, terminal_begin_refused, terminal_load_refused, terminal_restart_refused, terminal_reversal_refused}
 
 -- what a till keeps of the nature of its cells where neither is armed
 pub record PreservesCells {C B : Type 0} (cell : CellMeaning C) (book : CellMeaning B) (before after : TillOf C B) : Type 0 where

@@ -1,6 +1,5 @@
 -- What a move changes.
 use Rattle.std.proofs.Common.{◌≡◌, ◌++◌, ◌∷◌, ℕ, List, [], Contains, Ok, Err, inl, inr, refl, arith}
-use Rattle.std.proofs.lemmas.Option.{get_or_from_slice_get, slice_get_within}
 use Rattle.duk_host.specs.declared.fault.HostFault.{HostFault}
 use Rattle.duk_host.specs.declared.fault.HostFault.TheVariants as host_fault
 use Rattle.duk_journal_host.specs.Group.{AnswersFrames, GroupRefused}
@@ -15,9 +14,11 @@ use Rattle.duk_term.specs.declared.answer.ReversalAnswer.TheVariants as reversal
 use Rattle.duk_term.specs.declared.purchase.Purchase.{Purchase}
 use Rattle.duk_till.specs.Lifetime.{ArmBook, ArmTerminal, Begin, Call, IsCalled, Reply, Restart, Reverse, ReversalReply as ReversalReplyCall}
 use Rattle.duk_till.specs.Till.{TillOf, approved_in}
+use Rattle.duk_stations.proofs.PlacesInLists.{at_contains, changes_as}
 use Rattle.duk_books.specs.Arm.{ArmsHost, ArmsJournal, ArmsTill, ArmsTillBook, ArmsTerminalCell}
 use Rattle.duk_books.specs.Begin.{Begins}
-use Rattle.duk_books.specs.Books.{BooksOf, ChangesOnly, Frame, IsAt, Meanings}
+use Rattle.duk_books.specs.Books.{BooksOf, Frame, Meanings}
+use Rattle.duk_stations.specs.Places.{ChangesOnly}
 use Rattle.duk_books.specs.Down.{TakesAnswer, TakesReply, TakesReversalReply}
 use Rattle.duk_books.specs.Load.{IsGiven}
 use Rattle.duk_books.specs.Reached.{Moves}
@@ -74,22 +75,6 @@ pub data Change {C B J I : Type 0} (m : Meanings C B J I) (old new : BooksOf C B
   unanswered : (frame : Frame) (answers : List (List ℕ)) (why : HostFault) → Contains old.requests frame → GroupRefused m.host (frame.items ∷ []) old.host new.host answers why
       → new ≡ record old { host = new.host } → Change m old new
   host : TouchesHost m old.host new.host → new ≡ record old { host = new.host } → Change m old new
-
--- a till that changes in one way changes in another that follows
-changes_as : {A : Type 0} (t : ℕ) (P Q : A → A → Type 0) (old new : List A) → ((before after : A) → P before after → Q before after) → ChangesOnly t P old new → ChangesOnly t Q old new
-changes_as t P Q old new follows change = record {
-  place = change.place;
-  before = change.before;
-  after = change.after;
-  number_is = change.number_is;
-  was = change.was;
-  changed = follows change.before change.after change.changed;
-  others = change.others;
-}
-
--- what has a number in a list stands in it
-pub at_contains : {A : Type 0} (things : List A) (number : ℕ) (thing : A) → IsAt things number thing → Contains things thing
-at_contains things number thing at = (at.place, slice_get_within things at.place thing at.thing_is, get_or_from_slice_get things at.place thing thing at.thing_is)
 
 begin_change : {C B J I : Type 0} (m : Meanings C B J I) (old : BooksOf C B J I) (t : ℕ) (purchase : Purchase) (outcome : Outcome) (new : BooksOf C B J I) → Begins m old t purchase outcome new → Change m old new
 begin_change m old t purchase (came.Sent u k ksn) new is = send t purchase is.1.begun is.1.till is.1.rest
@@ -161,7 +146,7 @@ arm_till_change : {C B J I : Type 0} (m : Meanings C B J I) (it : End) (t : ℕ)
     → IsQuiet call → ((before after : TillOf C B) → change before after → IsCalled m.cell m.book call before after) → ArmsTill it t change old steps outcome new → Change m old new
 arm_till_change m it t call change old steps came.NoSuchTill new is_quiet follows is = nothing is.1
 arm_till_change m it t call change old steps (came.Armed armed passed) new is_quiet follows is =
-    quiet t call is_quiet (changes_as t change (IsCalled m.cell m.book call) old.tills new.tills follows is.2.till) is.2.rest
+    quiet t call is_quiet (changes_as t change old.tills new.tills is.2.till (IsCalled m.cell m.book call) (follows is.2.till.before is.2.till.after)) is.2.rest
 arm_till_change m it t call change old steps _ new is_quiet follows is = absurd is
 
 arm_host_change : {C B J I : Type 0} (m : Meanings C B J I) (old : BooksOf C B J I) (steps : ℕ) (outcome : Outcome) (new : BooksOf C B J I) → ArmsHost m old steps outcome new → Change m old new
@@ -195,7 +180,7 @@ step_change m old (event.Down k t) outcome new step = elim step [
     | inr is ↦
         let told = by_answer m.cell m.book t is.frame outcome is.till.before is.till.after is.till.changed in
         tell t told.call (telling_of old.answers is.frame told.call (at_contains old.answers k is.frame is.sent) told.telling)
-        (record { place = is.till.place; before = is.till.before; after = is.till.after; number_is = is.till.number_is; was = is.till.was; changed = told.called; others = is.till.others })
+        (changes_as t _ old.tills new.tills is.till (IsCalled m.cell m.book told.call) (λ taken. told.called))
         is.sales is.rest
   ]
 ]
@@ -204,7 +189,7 @@ step_change m old (event.RestartTill t) outcome new step = elim step [
   | inr is ↦
       let told = by_restart m.cell m.book old.answers t outcome is.till.before is.till.after is.till.changed in
       tell t told.call told.telling
-      (record { place = is.till.place; before = is.till.before; after = is.till.after; number_is = is.till.number_is; was = is.till.was; changed = told.called; others = is.till.others })
+      (changes_as t _ old.tills new.tills is.till (IsCalled m.cell m.book told.call) (λ taken. told.called))
       is.sales is.rest
 ]
 step_change m old event.RestartHost outcome new step = restart_host_change m old outcome new step

@@ -21,9 +21,9 @@ use Rattle.duk_till.specs.declared.last.Last.TheVariants.{Open, Undone}
 use Rattle.duk_till.specs.declared.state.TillState.TheVariants.{Stopped, Running}
 use Rattle.duk_books.specs.Images.{IsNothingOrLast}
 use Rattle.duk_books.proofs.agreement.QuietCalls.{begun_fields}
-use Rattle.duk_books.proofs.agreement.Registers.{NumberLaws}
+use Rattle.duk_stations.specs.Registers.{RegisterLaws}
 use Rattle.duk_books.proofs.agreement.TellingCalls.{outcome_fields}
-use Rattle.duk_books.proofs.agreement.Terminals.{found_then, stays_honest}
+use Rattle.duk_stations.proofs.Terminals.{found_then, stays_honest}
 use Rattle.duk_books.proofs.agreement.Tills.{same_last, stopped_is_not_running}
 
 -- the last purchase of a running till has fields as their names say, and so has each that its book may
@@ -40,7 +40,7 @@ of_last (Some last) fields = (last, record { fields = fields; laid_out = refl })
 same_some : (one other : Last) → Some one ≡ Some other → one ≡ other
 same_some one other same = cc
 
-module _ {C B : Type 0} (laws : NumberLaws) (cell : CellMeaning C) (book : CellMeaning B) where
+module _ {C B : Type 0} (laws : RegisterLaws) (cell : CellMeaning C) (book : CellMeaning B) where
   abbrev Has : TillOf C B → Type 0
   Has till = HasLasts book till
 

@@ -13,14 +13,16 @@ use Rattle.duk_term.specs.declared.state.State.TheVariants.{Stopped, Empty, Load
 use Rattle.duk_till.specs.Till.{TillOf}
 use Rattle.duk_tree.specs.Derivation.{initial_key_of, response_key_of, transaction_key_of}
 use Rattle.duk_tree.specs.Serial.{Serial, iksn_prefix_of}
-use Rattle.duk_books.specs.Books.{BooksOf, IsAt, Meanings}
+use Rattle.duk_books.specs.Books.{BooksOf, Meanings}
+use Rattle.duk_stations.specs.Places.{IsAt}
 use Rattle.duk_books.specs.Images.{FindVersion2, FindsVersion2}
 use Rattle.duk_books.specs.NoUsedKey.{AreRegistersAboveUsed, IfLoaded, OwnsAboveUsed}
 use Rattle.duk_books.specs.Reached.{Reached}
 use Rattle.duk_books.specs.StolenTill.{HasImage, HasMemory, ShowsRegisters, StandAlike, TerminalsStandAlike, WaitForOneNumber, WaitsWithItsReplyKey}
-use Rattle.duk_books.proofs.moves.PlacesInLists.{stands_at}
-use Rattle.duk_books.proofs.moves.StepChanges.{at_contains}
-use Rattle.duk_books.proofs.numbers.NoUsedKey.{UsableFits, counter_fits}
+use Rattle.duk_stations.proofs.PlacesInLists.{stands_at}
+use Rattle.duk_stations.proofs.PlacesInLists.{at_contains}
+use Rattle.duk_stations.specs.Registers.{UsableFits}
+use Rattle.duk_stations.proofs.NoUsedKey.{counter_fits}
 use Rattle.duk_books.proofs.numbers.ReplyKeys.{ReplyKeyLaws, reached_waits}
 
 -- what registers are found with: those above every used number

@@ -1,33 +1,31 @@
 -- The keys of what tills send.
-use Rattle.std.proofs.Common.{◌≡◌, ◌++◌, ◌∷◌, [], ℕ, List, Option, All, inl, inr, suc, refl, sym, ap, subst, ◌∙◌}
+use Rattle.std.proofs.Common.{◌≡◌, ◌++◌, ◌∷◌, [], ℕ, List, Option, All, inl, inr, suc, refl, sym, ap, subst}
 use Rattle.std.proofs.lemmas.List.Elements.{All-nil, All-push}
-use Rattle.duk_frame.specs.Payment.{enciphered_pin, request_of}
-use Rattle.duk_hsm.specs.Commands.{IsPinOf, IsTransactionKey}
-use Rattle.duk_hsm.specs.Keys.{HsmKeys, key_set_of}
-use Rattle.duk_pin.specs.PinBlock.{IsPinBlock, pin_block}
-use Rattle.duk_regs.specs.Registers.{AreFutureKeysOf, IsTaken, RegisterSet}
+use Rattle.duk_frame.specs.Payment.{request_of}
+use Rattle.duk_hsm.specs.Keys.{HsmKeys}
+use Rattle.duk_regs.specs.Registers.{RegisterSet}
 use Rattle.duk_reversal.specs.Authentic.{reversal_of}
-use Rattle.duk_tdes.specs.Key.{IsKey}
-use Rattle.duk_tdes.specs.Tdes.{tdes_decrypted, tdes_encrypted}
-use Rattle.duk_term.specs.Begin.{IsBegun, TakesNumber}
+use Rattle.duk_term.specs.Begin.{IsBegun}
 use Rattle.duk_term.specs.Reversal.{IsReversalBegun, numbers_of}
 use Rattle.duk_term.specs.Terminal.{TerminalOf, serial_of}
 use Rattle.duk_term.specs.declared.purchase.Purchase.{Purchase}
 use Rattle.duk_term.specs.declared.state.Pending.{Pending}
 use Rattle.duk_term.specs.declared.state.State.TheVariants.{Loaded}
 use Rattle.duk_till.specs.Till.{TillOf}
-use Rattle.duk_tree.specs.Derivation.{node_key, pin_key_of, transaction_key_of}
-use Rattle.duk_tree.specs.Path.{IsUsable, path_of}
-use Rattle.duk_tree.specs.Serial.{IsSerial, Serial, iksn_prefix_of, prefix_of}
-use Rattle.duk_books.specs.Books.{BooksOf, ChangesOnly, Frame, Meanings}
+use Rattle.duk_tree.specs.Serial.{Serial}
+use Rattle.duk_books.specs.Books.{BooksOf, Frame, Meanings}
+use Rattle.duk_stations.specs.Places.{ChangesOnly}
 use Rattle.duk_books.specs.NoUsedKey.{AreRegistersAboveUsed, IfLoaded, InEachTill, OwnsAboveUsed}
 use Rattle.duk_books.specs.OwnKeyOfRequests.{IsOwnKeyRequest, IsOwnKeyReversal, IsOwnKeySent}
 use Rattle.duk_books.specs.Reached.{Reached}
-use Rattle.duk_books.proofs.agreement.BooksHold.{before_at}
+use Rattle.duk_stations.proofs.PlacesInLists.{before_at}
 use Rattle.duk_books.proofs.moves.KeysStay.{change_keys}
 use Rattle.duk_books.proofs.moves.ReachedByMoves.{reached_all}
 use Rattle.duk_books.proofs.moves.StepChanges.{Change, answered, host, load, move_change, nothing, quiet, reverse, send, tell, unanswered}
-use Rattle.duk_books.proofs.numbers.AllSafe.{BegunIsRequest, BegunIsReversal}
+use Rattle.duk_books.proofs.numbers.AllSafe.{BegunIsReversal}
+use Rattle.duk_stations.proofs.OwnKey.{BegunIsRequest, own_transaction_key, pin_found}
+use Rattle.duk_stations.specs.Keys.{KeyLaws}
+use Rattle.duk_stations.proofs.Safe.{HasOwnKeys}
 
 -- what the laws of the crates below say of keys and frames, and that the registers of each till's
 -- terminal stand for its own initial key
@@ -35,37 +33,11 @@ pub record OwnKeyLaws {C B J I : Type 0} (m : Meanings C B J I) : Type 0 where
   pub future_keys : (books : BooksOf C B J I) → Reached m books → InEachTill m (OwnsAboveUsed books.host.keys books.requests books.owners) books.tills
   pub request : BegunIsRequest m.cell
   pub reversal : BegunIsReversal m.cell
-  pub readable : (purchase : Purchase) (before after : TerminalOf C) (frame : List ℕ) → IsBegun m.cell purchase before after frame → IsPinBlock purchase.pin purchase.pan (pin_block purchase.pin purchase.pan)
-  pub taken : (initial : List ℕ) (old new : RegisterSet) (key : List ℕ) → IsUsable old.counter → IsTaken old key new → AreFutureKeysOf initial old → key ≡ transaction_key_of initial old.iksn old.counter
-  pub prefixes : (ksn : Serial) → IsSerial ksn → prefix_of ksn ≡ iksn_prefix_of ksn.iksn
-  pub node : (initial : List ℕ) (iksn : ℕ) (path : List ℕ) → IsKey 16 initial → IsKey 16 (node_key initial iksn path)
-  pub pin_key : (key : List ℕ) → IsKey 16 key → IsKey 16 (pin_key_of key)
-  pub deciphered : (key pin pan : List ℕ) → IsKey 16 key → IsPinBlock pin pan (pin_block pin pan) → tdes_decrypted key (tdes_encrypted key (pin_block pin pan)) ≡ pin_block pin pan
+  pub keys : KeyLaws m.cell
 
 module _ {C B J I : Type 0} (m : Meanings C B J I) (laws : OwnKeyLaws m) (keys : HsmKeys) (requests : List Frame) where
-  -- registers of the own initial key give the transaction key of their next number
-  pub own_transaction_key : (set left : RegisterSet) (key : List ℕ) → TakesNumber set key left → IsSerial (serial_of set) → AreRegistersAboveUsed keys requests set → IsTransactionKey keys (serial_of set) key
-  own_transaction_key set left key takes serial above =
-      let initial = above.initial_is in
-      let taken = laws.taken above.initial set left key takes.usable takes.taken above.future_keys in
-      record {
-        bdk = initial.bdk;
-        held = ap (key_set_of keys) (laws.prefixes (serial_of set) serial) ∙ initial.held;
-        usable = takes.usable;
-        key_is = taken ∙ ap (λ (root : List ℕ). transaction_key_of root set.iksn set.counter) initial.initial_is;
-      }
-
-  -- and the PIN in the block of a request that is made with it is found again
-  pub pin_found : (purchase : Purchase) (before after : TerminalOf C) (frame : List ℕ) (begun : IsBegun m.cell purchase before after frame) → AreRegistersAboveUsed keys requests begun.set
-      → IsPinOf begun.key (enciphered_pin begun.key purchase.pin purchase.pan) purchase.pan purchase.pin
-  pin_found purchase before after frame begun above =
-      let set = begun.set in
-      let key = begun.key in
-      let takes = begun.takes.takes in
-      let readable = laws.readable purchase before after frame begun in
-      let taken = laws.taken above.initial set begun.left key takes.usable takes.taken above.future_keys in
-      let is_key : IsKey 16 key = subst (IsKey 16) (sym taken) (laws.node above.initial set.iksn (path_of set.counter) above.initial_is.is_key) in
-      subst (IsPinBlock purchase.pin purchase.pan) (sym (laws.deciphered (pin_key_of key) purchase.pin purchase.pan (laws.pin_key key is_key) readable)) readable
+  pub of_above : (set : RegisterSet) → AreRegistersAboveUsed keys requests set → HasOwnKeys keys set
+  of_above set above = record { initial = above.initial; initial_is = above.initial_is; future_keys = above.future_keys }
 
   own_request : (purchase : Purchase) (before after : TerminalOf C) (frame : Frame) (begun : IsBegun m.cell purchase before after frame.items) → AreRegistersAboveUsed keys requests begun.set → IsOwnKeyRequest keys frame
   own_request purchase before after frame begun above =
@@ -77,9 +49,9 @@ module _ {C B J I : Type 0} (m : Meanings C B J I) (laws : OwnKeyLaws m) (keys :
         request = request_of key (serial_of set) purchase.pan purchase.pin purchase.amount;
         pin = purchase.pin;
         is_request = is_request;
-        authentic = record { key = key; key_is = own_transaction_key set begun.left key takes is_request.fields.ksn_is above; mac_is = refl };
+        authentic = record { key = key; key_is = own_transaction_key m.cell laws.keys keys set begun.left key takes is_request.fields.ksn_is (of_above set above); mac_is = refl };
         frame_is = begun.frame_is;
-        pin_is_found = pin_found purchase before after frame.items begun above;
+        pin_is_found = pin_found m.cell laws.keys keys purchase before after frame.items begun (of_above set above);
       }
 
   own_reversal : (reversed ksn : Serial) (before after : TerminalOf C) (frame : Frame) (begun : IsReversalBegun m.cell reversed ksn frame.items before after) → AreRegistersAboveUsed keys requests begun.set → IsOwnKeyReversal keys frame
@@ -88,7 +60,7 @@ module _ {C B J I : Type 0} (m : Meanings C B J I) (laws : OwnKeyLaws m) (keys :
       record {
         reversal = reversal_of begun.key (numbers_of begun.set reversed);
         is_reversal = is_reversal;
-        authentic = record { key = begun.key; key_is = own_transaction_key begun.set begun.left begun.key begun.takes.takes is_reversal.fields.numbers_are.ksn_is above; mac_is = refl };
+        authentic = record { key = begun.key; key_is = own_transaction_key m.cell laws.keys keys begun.set begun.left begun.key begun.takes.takes is_reversal.fields.numbers_are.ksn_is (of_above begun.set above); mac_is = refl };
         frame_is = begun.frame_is;
       }
 

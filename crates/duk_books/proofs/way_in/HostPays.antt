@@ -23,16 +23,18 @@ use Rattle.duk_store.specs.declared.fault.StoreFault.TheVariants as store_fault
 use Rattle.duk_tdes.specs.Tdes.{tdes_decrypted, tdes_encrypted}
 use Rattle.duk_tree.specs.Derivation.{derived_key_of, pin_key_of}
 use Rattle.duk_tree.specs.Serial.{Serial, prefix_of}
-use Rattle.duk_books.specs.Books.{BooksOf, Frame, IsAt, Meanings}
+use Rattle.duk_books.specs.Books.{BooksOf, Frame, Meanings}
+use Rattle.duk_stations.specs.Places.{IsAt}
 use Rattle.duk_books.specs.Calm.{ReportsFault}
 use Rattle.duk_books.specs.Up.{IsAnswered, ReachesHost, SaysAnswer}
 use Rattle.duk_books.specs.declared.event.End.TheVariants as ends
 use Rattle.duk_books.specs.declared.outcome.Outcome.{Outcome}
 use Rattle.duk_books.specs.declared.outcome.Outcome.TheVariants as came
+use Rattle.duk_books.specs.inner.Known.{FrameLaws}
 use Rattle.duk_books.proofs.accepted.RepliedBefore.{AnswerLaws, no_refusal, same_code, same_ksn}
-use Rattle.duk_books.proofs.agreement.Facts.{FrameLaws, the_one}
+use Rattle.duk_books.proofs.agreement.Facts.{the_one}
 use Rattle.duk_books.proofs.agreement.HostHolds.{flat_in}
-use Rattle.duk_books.proofs.calm_stores.CalmRestarts.{not_missing}
+use Rattle.duk_stations.proofs.PlacesInLists.{not_missing}
 use Rattle.duk_books.proofs.way_out.HostReverses.{refuses}
 use Rattle.duk_books.proofs.way_out.Ups.{one_at, one_there, some_is}
 

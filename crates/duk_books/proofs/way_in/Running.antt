@@ -25,13 +25,14 @@ use Rattle.duk_till.specs.declared.fault.TillFault.{TillFault}
 use Rattle.duk_till.specs.declared.fault.TillFault.TheVariants as fault
 use Rattle.duk_till.specs.declared.state.TillState.TheVariants.{Stopped}
 use Rattle.duk_tree.specs.Serial.{Serial}
-use Rattle.duk_books.specs.Books.{BooksOf, ChangesOnly, IsAt, Meanings}
+use Rattle.duk_books.specs.Books.{BooksOf, Meanings}
+use Rattle.duk_stations.specs.Places.{ChangesOnly, IsAt}
 use Rattle.duk_books.specs.Load.{TakesLoad}
 use Rattle.duk_books.specs.Reached.{Reached}
 use Rattle.duk_books.specs.declared.outcome.Outcome.{Outcome}
 use Rattle.duk_books.specs.declared.outcome.Outcome.TheVariants as came
 use Rattle.duk_books.proofs.agreement.Agreement.{new_at}
-use Rattle.duk_books.proofs.agreement.BooksHold.{after_at, before_at}
+use Rattle.duk_stations.proofs.PlacesInLists.{after_at, before_at}
 use Rattle.duk_books.proofs.moves.ReachedByMoves.{reached_all}
 use Rattle.duk_books.proofs.moves.StepChanges.{Change, answered, host, load, move_change, nothing, quiet, reverse, send, tell, unanswered}
 

@@ -20,14 +20,15 @@ use Rattle.duk_till.specs.declared.fault.TillFault.TheVariants as fault
 use Rattle.duk_tree.specs.Next.{spent_counter}
 use Rattle.duk_tree.specs.Serial.{Serial}
 use Rattle.duk_books.specs.Begin.{Begins, IsSent}
-use Rattle.duk_books.specs.Books.{BooksOf, IsAt, Meanings}
+use Rattle.duk_books.specs.Books.{BooksOf, Meanings}
+use Rattle.duk_stations.specs.Places.{IsAt}
 use Rattle.duk_books.specs.Calm.{IsBookFault, IsTerminalFault, ReportsFault}
 use Rattle.duk_books.specs.declared.event.End.TheVariants as ends
 use Rattle.duk_books.specs.declared.outcome.Outcome.{Outcome}
 use Rattle.duk_books.specs.declared.outcome.Outcome.TheVariants as came
 use Rattle.duk_books.proofs.agreement.QuietCalls.{not_open_at_rest}
 use Rattle.duk_books.proofs.agreement.Tills.{stopped_is_not_running}
-use Rattle.duk_books.proofs.calm_stores.CalmRestarts.{not_missing}
+use Rattle.duk_stations.proofs.PlacesInLists.{not_missing}
 use Rattle.duk_books.proofs.way_out.OpenIsUsed.{same_set}
 use Rattle.duk_books.proofs.way_out.TillReverses.{IsSpared, stopped_not_loaded}
 use Rattle.duk_books.proofs.way_out.Ups.{one_at, one_there, put_fails}

@@ -20,7 +20,8 @@ use Rattle.duk_till.specs.declared.fault.TillFault.TheVariants as fault
 use Rattle.duk_till.specs.declared.last.Last.TheVariants.{Open}
 use Rattle.duk_till.specs.declared.state.TillState.TheVariants.{Running}
 use Rattle.duk_tree.specs.Serial.{Serial}
-use Rattle.duk_books.specs.Books.{BooksOf, ChangesOnly, Frame, IsAt, Meanings}
+use Rattle.duk_books.specs.Books.{BooksOf, Frame, Meanings}
+use Rattle.duk_stations.specs.Places.{ChangesOnly, IsAt}
 use Rattle.duk_books.specs.Calm.{IsBookFault, ReportsFault}
 use Rattle.duk_books.specs.Down.{ReachesTill, TakesAnswer, TakesReply}
 use Rattle.duk_books.specs.Sales.{TakesSale}
@@ -32,7 +33,7 @@ use Rattle.duk_books.proofs.accepted.RepliedBefore.{AnswerLaws, no_refusal, same
 use Rattle.duk_books.proofs.agreement.QuietCalls.{not_open_at_rest}
 use Rattle.duk_books.proofs.agreement.TellingCalls.{same_open}
 use Rattle.duk_books.proofs.agreement.Tills.{same_last, stopped_is_not_running}
-use Rattle.duk_books.proofs.calm_stores.CalmRestarts.{not_missing}
+use Rattle.duk_stations.proofs.PlacesInLists.{not_missing}
 use Rattle.duk_books.proofs.way_out.TillReverses.{IsSpared, one_open, same_pending, stopped_not_loaded}
 use Rattle.duk_books.proofs.way_out.Ups.{now_at, one_at, one_there, put_fails}
 

@@ -26,7 +26,8 @@ use Rattle.duk_till.specs.declared.state.TillState.{TillState}
 use Rattle.duk_till.specs.declared.state.TillState.TheVariants.{Running}
 use Rattle.duk_tree.specs.Serial.{Serial}
 use Rattle.duk_books.specs.Begin.{Begins}
-use Rattle.duk_books.specs.Books.{BooksOf, Frame, IsAt, Meanings}
+use Rattle.duk_books.specs.Books.{BooksOf, Frame, Meanings}
+use Rattle.duk_stations.specs.Places.{IsAt}
 use Rattle.duk_books.specs.Calm.{IsCalmAt, ReportsArming}
 use Rattle.duk_books.specs.NoUsedKey.{OwnsAboveUsed}
 use Rattle.duk_books.specs.Reached.{Reached}
@@ -47,7 +48,8 @@ use Rattle.duk_books.proofs.agreement.Tills.{stopped_is_not_running}
 use Rattle.duk_books.proofs.calm_stores.CalmStores.{reached_facts}
 use Rattle.duk_books.proofs.calm_stores.KnownStores.{StoreLaws}
 use Rattle.duk_books.proofs.moves.ReachedByMoves.{reached_step}
-use Rattle.duk_books.proofs.numbers.OwnKey.{OwnKeyLaws, own_transaction_key, pin_found}
+use Rattle.duk_stations.proofs.OwnKey.{own_transaction_key, pin_found}
+use Rattle.duk_books.proofs.numbers.OwnKey.{OwnKeyLaws, of_above}
 use Rattle.duk_books.proofs.way_in.HostPays.{IsSaid, PaysFor, is_said, one_key, pays_for, says_accepted}
 use Rattle.duk_books.proofs.way_in.Running.{CellsRun, reached_runs}
 use Rattle.duk_books.proofs.way_in.TillBegins.{HasNext, SendsRequest, has_next, sends_request}
@@ -209,7 +211,7 @@ module _ {C B J I : Type 0} (m : Meanings C B J I) (laws : WayInLaws m) (old : B
   is_new = next_is_new m laws.stores laws.keys.future_keys old reached t till way.begins.at begun.set begun.left begun.key begun.takes.pending begun.takes.had begun.takes.takes entries judged.1
 
   key_is : IsTransactionKey old.host.keys serial begun.key
-  key_is = own_transaction_key m laws.keys old.host.keys old.requests begun.set begun.left begun.key begun.takes.takes is_request.fields.ksn_is is_above.above
+  key_is = own_transaction_key m.cell laws.keys.keys old.host.keys begun.set begun.left begun.key begun.takes.takes is_request.fields.ksn_is (of_above m laws.keys old.host.keys old.requests begun.set is_above.above)
 
   authentic : IsAuthentic old.host.keys request
   authentic = record { key = begun.key; key_is = key_is; mac_is = refl }
@@ -226,7 +228,7 @@ module _ {C B J I : Type 0} (m : Meanings C B J I) (laws : WayInLaws m) (old : B
   said : IsSaid old.host.keys (m.host.decides old.host.issuer) request purchase.pin pays.code
   said =
       is_said laws.one_pin old.host.keys (m.host.decides old.host.issuer) request begun.key purchase.pin key_is
-      (pin_found m laws.keys old.host.keys old.requests purchase till.terminal after.terminal frame.items begun is_above.above) pays.code
+      (pin_found m.cell laws.keys.keys old.host.keys purchase till.terminal after.terminal frame.items begun (of_above m laws.keys old.host.keys old.requests begun.set is_above.above)) pays.code
       (subst (λ (host : HostOf J I). IsCodeOf host.keys (m.host.decides host.issuer) request pays.code) same_host pays.code_is)
 
   same_code : pays.code ≡ code

@@ -19,7 +19,8 @@ use Rattle.duk_reversal.specs.declared.state.ReversalState.{ReversalState}
 use Rattle.duk_store.specs.declared.fault.StoreFault.{StoreFault}
 use Rattle.duk_store.specs.declared.fault.StoreFault.TheVariants as store_fault
 use Rattle.duk_tree.specs.Serial.{Serial}
-use Rattle.duk_books.specs.Books.{BooksOf, Frame, IsAt, Meanings}
+use Rattle.duk_books.specs.Books.{BooksOf, Frame, Meanings}
+use Rattle.duk_stations.specs.Places.{IsAt}
 use Rattle.duk_books.specs.Calm.{IsJournalFault, ReportsFault}
 use Rattle.duk_books.specs.Came.{AreAskedFor, IsAskedFor}
 use Rattle.duk_books.specs.Numbers.{IsUsedNumber}
@@ -27,9 +28,10 @@ use Rattle.duk_books.specs.Up.{IsAnswered, ReachesHost}
 use Rattle.duk_books.specs.declared.event.End.TheVariants as ends
 use Rattle.duk_books.specs.declared.outcome.Outcome.{Outcome}
 use Rattle.duk_books.specs.declared.outcome.Outcome.TheVariants as came
-use Rattle.duk_books.proofs.agreement.Facts.{FrameLaws, IsCalledBack, the_only}
+use Rattle.duk_books.specs.inner.Known.{FrameLaws}
+use Rattle.duk_books.proofs.agreement.Facts.{IsCalledBack, the_only}
 use Rattle.duk_books.proofs.agreement.HostHolds.{flat_from}
-use Rattle.duk_books.proofs.calm_stores.CalmRestarts.{not_missing}
+use Rattle.duk_stations.proofs.PlacesInLists.{not_missing}
 use Rattle.duk_books.proofs.way_out.Ups.{not_both, one_at, one_there}
 
 -- ---- the number is new

@@ -11,7 +11,8 @@ use Rattle.duk_term.specs.declared.state.Pending.{Pending}
 use Rattle.duk_term.specs.declared.state.State.TheVariants.{Loaded}
 use Rattle.duk_till.specs.History.{payment_of}
 use Rattle.duk_till.specs.Till.{TillOf}
-use Rattle.duk_books.specs.Books.{BooksOf, IsAt, Meanings}
+use Rattle.duk_books.specs.Books.{BooksOf, Meanings}
+use Rattle.duk_stations.specs.Places.{IsAt}
 use Rattle.duk_books.specs.NoUsedKey.{IfLoaded, InEachTill, OwnsAboveUsed}
 use Rattle.duk_books.specs.Reached.{Reached}
 use Rattle.duk_books.specs.Sales.{sale_of}

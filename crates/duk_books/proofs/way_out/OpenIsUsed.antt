@@ -18,10 +18,12 @@ use Rattle.duk_till.specs.Load.{TillLoadRefused}
 use Rattle.duk_till.specs.Till.{IsAtRest, SameBook, TillOf}
 use Rattle.duk_till.specs.declared.fault.TillFault.{TillFault}
 use Rattle.duk_till.specs.declared.fault.TillFault.TheVariants as fault
+use Rattle.duk_term.specs.declared.fault.TermFault.TheVariants as term_fault
 use Rattle.duk_till.specs.declared.last.Last.{Last}
 use Rattle.duk_till.specs.declared.last.Last.TheVariants.{Open}
 use Rattle.duk_tree.specs.Serial.{Serial}
-use Rattle.duk_books.specs.Books.{BooksOf, ChangesOnly, IsAt, Meanings}
+use Rattle.duk_books.specs.Books.{BooksOf, Meanings}
+use Rattle.duk_stations.specs.Places.{ChangesOnly, IsAt}
 use Rattle.duk_books.specs.Completed.{MayBeOpen}
 use Rattle.duk_books.specs.First.{IsFirst, IsNewTill}
 use Rattle.duk_books.specs.Load.{TakesLoad}
@@ -30,17 +32,21 @@ use Rattle.duk_books.specs.Reached.{Reached}
 use Rattle.duk_books.specs.WayOut.{OpenNumbersAreUsed}
 use Rattle.duk_books.specs.declared.outcome.Outcome.{Outcome}
 use Rattle.duk_books.specs.declared.outcome.Outcome.TheVariants as came
+use Rattle.duk_books.specs.inner.Known.{BookLaws, OneReading}
 use Rattle.duk_books.proofs.accepted.ComesToBeOpen.{IsLasting, IsNoBegin, Opens, called_open, none_is_no_body, stays_open, with_same_book}
 use Rattle.duk_books.proofs.accepted.EndsOnce.{PurchasesHold, first_hold, first_open, hold_after}
 use Rattle.duk_books.proofs.agreement.Agreement.{new_at}
-use Rattle.duk_books.proofs.agreement.BooksHold.{BookLaws, after_at, before_at, lists_of}
+use Rattle.duk_books.proofs.agreement.BooksHold.{lists_of}
+use Rattle.duk_stations.proofs.PlacesInLists.{after_at, before_at}
 use Rattle.duk_books.proofs.agreement.Facts.{Lists}
-use Rattle.duk_books.proofs.agreement.Registers.{NumberLaws, above_taken}
-use Rattle.duk_books.proofs.agreement.Terminals.{KeptHas, OfRegisters, StateHas, TerminalHas, begin_refused, begun, loaded, reversing, terminal_as}
-use Rattle.duk_books.proofs.agreement.Tills.{BookHolds, OneReading, one_last, same_last}
+use Rattle.duk_stations.proofs.Numbers.{above_taken}
+use Rattle.duk_stations.specs.Registers.{RegisterLaws}
+use Rattle.duk_stations.specs.inner.Moves.{GoesOn, is_loaded}
+use Rattle.duk_stations.proofs.Terminals.{KeptHas, OfRegisters, StateHas, TerminalHas, begin_goes, goes_on_has, load_has, new_has, request_takes, reversal_takes, takes_has, terminal_as}
+use Rattle.duk_books.proofs.agreement.Tills.{BookHolds, one_last, same_last}
 use Rattle.duk_books.proofs.moves.ReachedByMoves.{reached_all}
 use Rattle.duk_books.proofs.moves.StepChanges.{Change, IsQuiet, IsTelling, answered, host, load, move_change, nothing, quiet, reverse, send, tell, unanswered}
-use Rattle.duk_books.proofs.numbers.TerminalCalls.{load_fails, quiet_call, telling_call}
+use Rattle.duk_books.proofs.moves.TillMoves.{IsMove, call_goes, load_fails, telling_is_move}
 
 -- ---- what may be open has used its number
 
@@ -54,7 +60,7 @@ fewer P Q follows None none = λ ksn is. none ksn (follows ksn is)
 fewer P Q follows (Some set) used = λ ksn is. used ksn (follows ksn is)
 
 -- a number that was used stays so
-still_used : NumberLaws → (set left : RegisterSet) (key : List ℕ) (ksn : Serial) → TakesNumber set key left → HasUsed set ksn → HasUsed left ksn
+still_used : RegisterLaws → (set left : RegisterSet) (key : List ℕ) (ksn : Serial) → TakesNumber set key left → HasUsed set ksn → HasUsed left ksn
 still_used laws set left key ksn takes used = record {
   same_iksn = used.same_iksn ∙ sym takes.taken.same_iksn;
   usable = used.usable;
@@ -62,7 +68,7 @@ still_used laws set left key ksn takes used = record {
 }
 
 -- and one that is taken is used
-taken_used : NumberLaws → (set left : RegisterSet) (key : List ℕ) (ksn : Serial) → TakesNumber set key left → ksn ≡ serial_of set → HasUsed left ksn
+taken_used : RegisterLaws → (set left : RegisterSet) (key : List ℕ) (ksn : Serial) → TakesNumber set key left → ksn ≡ serial_of set → HasUsed left ksn
 taken_used laws set left key ksn takes is =
     subst (λ (it : Serial). HasUsed left it) (sym is) (record { same_iksn = sym takes.taken.same_iksn; usable = takes.usable; below = above_taken laws set left key takes })
 
@@ -107,26 +113,32 @@ module _ {C B J I : Type 0} (m : Meanings C B J I) (laws : BookLaws m) (lists : 
   no_more follows has = terminal_as m.cell Before After new.terminal (fewer (MayBeOpen m old) (MayBeOpen m new) follows) has
 
   takes_on : (set left : RegisterSet) (key : List ℕ) → TakesNumber set key left → Before (Some set) → Before (Some left)
-  takes_on set left key is used = λ ksn is_open. still_used laws.calls.numbers set left key ksn is (used ksn is_open)
+  takes_on set left key is used = λ ksn is_open. still_used laws.calls.registers set left key ksn is (used ksn is_open)
+
+  terminal_goes : GoesOn m.cell old.terminal new.terminal → TerminalHas m.cell Before new.terminal
+  terminal_goes goes = goes_on_has laws.calls.registers m.cell Before old.terminal new.terminal takes_on was goes
+
+  called : (call : Call) → IsMove call → IsCalled m.cell m.book call old new → TerminalHas m.cell Before new.terminal
+  called call moves is = terminal_goes (call_goes m.cell m.book old new call moves is)
 
   same : new ≡ old → UsesOpen m new
   same is = subst (λ (it : TillOf C B). UsesOpen m it) (sym is) was
 
   same_book : SameBook old new → (ksn : Serial) → MayBeOpen m new ksn → MayBeOpen m old ksn
-  same_book is = with_same_book m laws.calls.numbers laws.calls.reading old new book.honest is
+  same_book is = with_same_book m laws.calls.registers laws.calls.reading old new book.honest is
 
   -- a purchase takes its number
   begins : (purchase : Purchase) (ksn : Serial) (frame : List ℕ) → IsBegunUnder m.cell purchase ksn frame old.terminal new.terminal → ((ksn : Serial) → MayBeOpen m new ksn → MayBeOpen m old ksn ⊎ Opens old.terminal ksn) → UsesOpen m new
   begins purchase ksn frame is comes =
       let it = is.begun in
-      begun laws.calls.registers m.cell Before After purchase ksn frame old.terminal new.terminal is was (λ used other is_open. elim (comes other is_open) [
-        | inl before ↦ still_used laws.calls.numbers it.set it.left it.key other it.takes.takes (used other before)
-        | inr opens ↦ taken_used laws.calls.numbers it.set it.left it.key other it.takes.takes
+      takes_has laws.calls.registers m.cell Before After old.terminal new.terminal (request_takes m.cell old.terminal new.terminal purchase frame it) was (λ used other is_open. elim (comes other is_open) [
+        | inl before ↦ still_used laws.calls.registers it.set it.left it.key other it.takes.takes (used other before)
+        | inr opens ↦ taken_used laws.calls.registers it.set it.left it.key other it.takes.takes
             (opens.number_is ∙ ap serial_of (same_set old.terminal.state opens.set it.set opens.pending it.takes.pending opens.had it.takes.had))
       ])
 
   comes_open : (call : Call) → IsLasting call → IsCalled m.cell m.book call old new → (ksn : Serial) → MayBeOpen m new ksn → MayBeOpen m old ksn ⊎ Opens old.terminal ksn
-  comes_open call lasts is = called_open m laws.calls.numbers laws.calls.reading old new book.honest call lasts is
+  comes_open call lasts is = called_open m laws.calls.registers laws.calls.reading old new book.honest call lasts is
 
   begin_fails : (purchase : Purchase) (why : TillFault) → TillBeginRefused m.cell m.book purchase old new why → UsesOpen m new
   begin_fails purchase fault.Stopped is = same is.1
@@ -134,24 +146,24 @@ module _ {C B J I : Type 0} (m : Meanings C B J I) (laws : BookLaws m) (lists : 
   begin_fails purchase fault.NothingOpen is = absurd is
   begin_fails purchase (fault.Terminal why) is = elim is.1 [
     | inl spent ↦ same spent.2
-    | inr refused ↦ no_more (same_book refused.1) (begin_refused laws.calls.registers m.cell Before why old.terminal new.terminal takes_on was refused.0)
+    | inr refused ↦ no_more (same_book refused.1) (terminal_goes (inl (begin_goes m.cell old.terminal new.terminal why refused.0)))
   ]
   begin_fails purchase (fault.Store why) is = begins purchase is.ksn is.frame is.terminal (comes_open (Begin purchase (Err (fault.Store why))) tt is)
 
   no_begin : (call : Call) → IsLasting call → IsNoBegin call → IsCalled m.cell m.book call old new → TerminalHas m.cell Before new.terminal → UsesOpen m new
-  no_begin call lasts other is has = no_more (stays_open m laws.calls.numbers laws.calls.reading old new book.honest call lasts other is) has
+  no_begin call lasts other is has = no_more (stays_open m laws.calls.registers laws.calls.reading old new book.honest call lasts other is) has
 
   pub quiet_uses : (call : Call) → IsQuiet call → IsCalled m.cell m.book call old new → UsesOpen m new
   quiet_uses (Begin purchase (Err why)) is_quiet is = begin_fails purchase why is
-  quiet_uses (Reverse (Err why)) is_quiet is = no_begin (Reverse (Err why)) tt tt is (quiet_call laws.calls.registers m.cell m.book Before takes_on (Reverse (Err why)) old new is_quiet was is)
-  quiet_uses (ArmTerminal steps) is_quiet is = no_begin (ArmTerminal steps) tt tt is (quiet_call laws.calls.registers m.cell m.book Before takes_on (ArmTerminal steps) old new is_quiet was is)
-  quiet_uses (ArmBook steps) is_quiet is = no_begin (ArmBook steps) tt tt is (quiet_call laws.calls.registers m.cell m.book Before takes_on (ArmBook steps) old new is_quiet was is)
+  quiet_uses (Reverse (Err why)) is_quiet is = no_begin (Reverse (Err why)) tt tt is (called (Reverse (Err why)) tt is)
+  quiet_uses (ArmTerminal steps) is_quiet is = no_begin (ArmTerminal steps) tt tt is (called (ArmTerminal steps) tt is)
+  quiet_uses (ArmBook steps) is_quiet is = no_begin (ArmBook steps) tt tt is (called (ArmBook steps) tt is)
   quiet_uses _ is_quiet is = absurd is_quiet
 
   pub tell_uses : (answers : _) (call : Call) → IsTelling answers call → IsCalled m.cell m.book call old new → UsesOpen m new
   tell_uses answers call telling is =
       let lasts = telling_lasts answers call telling in
-      no_begin call lasts.0 lasts.1 is (telling_call laws.calls.registers m.cell m.book Before answers call old new telling was is)
+      no_begin call lasts.0 lasts.1 is (called call (telling_is_move answers call telling) is)
 
   pub send_uses : (purchase : Purchase) (it : _) → IsCalled m.cell m.book (Begin purchase (Ok it)) old new → UsesOpen m new
   send_uses purchase it is = begins purchase it.ksn it.frame.items is.terminal (comes_open (Begin purchase (Ok it)) tt is)
@@ -159,20 +171,20 @@ module _ {C B J I : Type 0} (m : Meanings C B J I) (laws : BookLaws m) (lists : 
   pub reverse_uses : (it : _) → IsCalled m.cell m.book (Reverse (Ok it)) old new → UsesOpen m new
   reverse_uses it is =
       let begins = is.terminal in
-      reversing laws.calls.registers m.cell Before After is.reversed it.ksn it.frame.items old.terminal new.terminal begins was
-      (λ used other is_open. still_used laws.calls.numbers begins.set begins.left begins.key other begins.takes.takes (used other (same_book is.same_book other is_open)))
+      takes_has laws.calls.registers m.cell Before After old.terminal new.terminal (reversal_takes m.cell old.terminal new.terminal is.reversed it.ksn it.frame.items begins) was
+      (λ used other is_open. still_used laws.calls.registers begins.set begins.left begins.key other begins.takes.takes (used other (same_book is.same_book other is_open)))
 
   closed : IsAtRest old.state → (ksn : Serial) → ¬ MayBeOpen m old ksn
   closed rest = closed_at_rest m laws.calls.reading lists t old book rest
 
   pub load_uses : (asked : Loading) (outcome : Outcome) → TakesLoad m.cell m.book t asked outcome old new → UsesOpen m new
   load_uses asked (came.Loaded u iksn) is =
-      let done = is.2 in
-      loaded laws.calls.registers m.cell Before After asked old.terminal new.terminal done.terminal was
-      (λ state set may first has other is_open. absurd (closed done.was_at_rest other (same_book done.same_book other is_open)))
+      no_begin (Load asked (Ok tt)) tt tt is.2 (load_has laws.calls.registers m.cell Before (Unit {0}) asked old.terminal new.terminal
+      (λ owned state set may first has other is_open. absurd (closed is.2.was_at_rest other is_open)) was (is_loaded tt is.2.terminal))
   load_uses asked (came.TillFaulted u why) is =
-      no_begin (Load asked (Err why)) tt tt is.1 (load_fails laws.calls.registers m.cell m.book Before asked why old new was
-      (λ store same_why state set may first has other is_open. absurd (closed (subst (λ (it : TillFault). TillLoadRefused m.cell asked old new it) same_why is.1).0 other is_open)) is.1)
+      let at_rest = λ (store : _) (same_why : why ≡ fault.Terminal (term_fault.Store store)). (subst (λ (it : TillFault). TillLoadRefused m.cell asked old new it) same_why is.1).0 in
+      no_begin (Load asked (Err why)) tt tt is.1 (load_has laws.calls.registers m.cell Before (IsAtRest old.state) asked old.terminal new.terminal
+      (λ rest state set may first has other is_open. absurd (closed rest other is_open)) was (load_fails m.cell m.book old new (IsAtRest old.state) asked why at_rest is.1))
   load_uses asked _ is = absurd is
 
 -- ---- each move
@@ -219,11 +231,8 @@ pub record OpenHolds {C B J I : Type 0} (m : Meanings C B J I) (books : BooksOf 
   pub uses : AllUse m books.tills
 
 new_uses : {C B J I : Type 0} (m : Meanings C B J I) (till : TillOf C B) → IsNewTill m till → UsesOpen m till
-new_uses m till made = record {
-  honest = made.cell.honest;
-  state = subst (StateHas (UsedBy (MayBeOpen m till))) (sym made.terminal_stopped) tt;
-  kept = λ kept found. subst (KeptHas (UsedBy (MayBeOpen m till))) (sym ((made.cell.finds kept).0 found)) (λ ksn. first_open m till ksn made);
-}
+new_uses m till made =
+    new_has m.cell (UsedBy (MayBeOpen m till)) till.terminal made.cell.honest (λ kept found. (made.cell.finds kept).0 found) made.terminal_stopped (λ ksn. first_open m till ksn made)
 
 first_holds : {C B J I : Type 0} (m : Meanings C B J I) (books : BooksOf C B J I) → IsFirst m books → OpenHolds m books
 first_holds m books is = record {

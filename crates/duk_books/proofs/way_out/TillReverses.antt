@@ -30,7 +30,8 @@ use Rattle.duk_till.specs.declared.fault.TillFault.TheVariants as fault
 use Rattle.duk_till.specs.declared.last.Last.TheVariants.{Open, Undone}
 use Rattle.duk_till.specs.declared.state.TillState.TheVariants.{Running}
 use Rattle.duk_tree.specs.Serial.{Serial}
-use Rattle.duk_books.specs.Books.{BooksOf, Frame, IsAt, Meanings}
+use Rattle.duk_books.specs.Books.{BooksOf, Frame, Meanings}
+use Rattle.duk_stations.specs.Places.{IsAt}
 use Rattle.duk_books.specs.Calm.{IsBookFault, IsTerminalFault, ReportsFault}
 use Rattle.duk_books.specs.Completed.{MayBeOpen}
 use Rattle.duk_books.specs.Down.{ReachesTill, TakesAnswer, TakesReversalReply}
@@ -41,9 +42,9 @@ use Rattle.duk_books.specs.declared.outcome.Outcome.{Outcome}
 use Rattle.duk_books.specs.declared.outcome.Outcome.TheVariants as came
 use Rattle.duk_books.proofs.agreement.QuietCalls.{not_open_at_rest}
 use Rattle.duk_books.proofs.agreement.TellingCalls.{same_open}
-use Rattle.duk_books.proofs.agreement.Terminals.{StateHas}
+use Rattle.duk_stations.proofs.Terminals.{StateHas}
 use Rattle.duk_books.proofs.agreement.Tills.{same_last, stopped_is_not_running}
-use Rattle.duk_books.proofs.calm_stores.CalmRestarts.{not_missing}
+use Rattle.duk_stations.proofs.PlacesInLists.{not_missing}
 use Rattle.duk_books.proofs.way_out.OpenIsUsed.{UsedBy, UsesOpen}
 use Rattle.duk_books.proofs.way_out.Ups.{HasNumber, now_at, one_at, one_there, put_fails}
 

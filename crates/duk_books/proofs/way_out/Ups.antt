@@ -20,7 +20,8 @@ use Rattle.duk_till.specs.declared.last.Last.TheVariants.{Open}
 use Rattle.duk_till.specs.declared.state.TillState.TheVariants.{Running}
 use Rattle.duk_tree.specs.Next.{spent_counter}
 use Rattle.duk_tree.specs.Serial.{Serial}
-use Rattle.duk_books.specs.Books.{BooksOf, ChangesOnly, HasOne, IsAt, Meanings}
+use Rattle.duk_books.specs.Books.{BooksOf, Meanings}
+use Rattle.duk_stations.specs.Places.{ChangesOnly, HasOne, IsAt}
 use Rattle.duk_books.specs.Calm.{IsCalmAt, IsRestartEvent, ReportsBroughtUp}
 use Rattle.duk_books.specs.Reached.{Reached}
 use Rattle.duk_books.specs.Restart.{IsHostReopened, IsTillBroughtUp, RestartsHost, TakesRestart}
@@ -31,7 +32,8 @@ use Rattle.duk_books.specs.declared.event.Event.TheVariants as event
 use Rattle.duk_books.specs.declared.outcome.Outcome.{Outcome}
 use Rattle.duk_books.specs.declared.outcome.Outcome.TheVariants as came
 use Rattle.duk_books.proofs.accepted.EndsOnce.{reached_hold}
-use Rattle.duk_books.proofs.calm_stores.CalmRestarts.{all_up, not_missing}
+use Rattle.duk_stations.proofs.PlacesInLists.{not_missing}
+use Rattle.duk_books.proofs.calm_stores.CalmRestarts.{all_up}
 use Rattle.duk_books.proofs.calm_stores.KnownStores.{StoreLaws}
 use Rattle.duk_books.proofs.moves.ReachedByMoves.{reached_step}
 use Rattle.duk_books.proofs.way_out.OpenIsUsed.{kept_open}

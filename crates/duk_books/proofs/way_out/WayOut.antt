@@ -26,7 +26,8 @@ use Rattle.duk_till.specs.declared.last.Last.TheVariants.{Approved, Declined, Op
 use Rattle.duk_till.specs.declared.state.TillState.TheVariants.{Running}
 use Rattle.duk_tree.specs.Derivation.{initial_key_of, response_key_of, transaction_key_of}
 use Rattle.duk_tree.specs.Serial.{IsSerial, Serial, iksn_prefix_of, prefix_of}
-use Rattle.duk_books.specs.Books.{BooksOf, Frame, IsAt, Meanings}
+use Rattle.duk_books.specs.Books.{BooksOf, Frame, Meanings}
+use Rattle.duk_stations.specs.Places.{IsAt}
 use Rattle.duk_books.specs.Calm.{IsCalmAt, ReportsArming}
 use Rattle.duk_books.specs.Down.{ReachesTill}
 use Rattle.duk_books.specs.NoUsedKey.{InEachTill, OwnsAboveUsed}
@@ -48,7 +49,7 @@ use Rattle.duk_books.proofs.agreement.QuietCalls.{not_open_at_rest}
 use Rattle.duk_books.proofs.calm_stores.CalmStores.{reached_facts}
 use Rattle.duk_books.proofs.calm_stores.KnownStores.{StoreLaws}
 use Rattle.duk_books.proofs.moves.ReachedByMoves.{reached_step}
-use Rattle.duk_books.proofs.moves.StepChanges.{at_contains}
+use Rattle.duk_stations.proofs.PlacesInLists.{at_contains}
 use Rattle.duk_books.proofs.way_out.HostReverses.{RepliesTo, replies_to}
 use Rattle.duk_books.proofs.way_out.NewNumber.{next_is_new}
 use Rattle.duk_books.proofs.way_out.OpenIsUsed.{reached_open}

@@ -1,65 +1,32 @@
 -- Where all stores are sound and calm, restarts bring up the ends that are there.
-use Rattle.std.proofs.Common.{◌≡◌, ◌≢◌, ◌⊎◌, ◌<◌, ◌∷◌, [], zero, suc, ℕ, List, length, inl, inr, refl, sym, ap, subst, ◌∙◌, arith}
-use Rattle.std.specs.List.{All, slice_set}
+use Rattle.std.proofs.Common.{◌≡◌, ◌≢◌, ◌⊎◌, ◌<◌, ◌∷◌, [], ℕ, List, length, inl, inr, refl, sym, ap, subst}
+use Rattle.std.specs.List.{All}
 use Rattle.std.proofs.lemmas.List.Elements.{All-cons, All-head, All-nil, All-tail}
 use Rattle.std.proofs.Math.ListN.{get_or}
 use Rattle.duk_host.specs.Host.{HostOf}
 use Rattle.duk_host.specs.Restart.{HostRestartRefused}
 use Rattle.duk_host.specs.declared.fault.HostFault.{HostFault}
 use Rattle.duk_host.specs.declared.fault.HostFault.TheVariants as host_fault
-use Rattle.duk_store.specs.Restart.{IsRestartFault}
-use Rattle.duk_store.specs.StoreState.{StoreState}
-use Rattle.duk_store.specs.declared.fault.StoreFault.{StoreFault}
 use Rattle.duk_store.specs.declared.fault.StoreFault.TheVariants as store_fault
-use Rattle.duk_term.specs.Restart.{TerminalRestartRefused}
-use Rattle.duk_term.specs.Terminal.{TerminalOf}
-use Rattle.duk_term.specs.declared.fault.TermFault.{TermFault}
-use Rattle.duk_term.specs.declared.fault.TermFault.TheVariants as term_fault
-use Rattle.duk_net.specs.Calm.{HasSoundStores, ReportsBroughtUp, IsCalmAt, IsCellFault, IsLogFault, IsRestartEvent, ReportsArming}
+use Rattle.duk_net.specs.Calm.{HasSoundStores, ReportsBroughtUp, IsCalmAt, IsLogFault, IsRestartEvent, ReportsArming}
 use Rattle.duk_net.specs.Reached.{Reached}
 use Rattle.duk_net.specs.Restart.{RestartsHost, TakesRestart}
 use Rattle.duk_net.specs.Run.{Run}
 use Rattle.duk_net.specs.Step.{Step}
-use Rattle.duk_net.specs.World.{ChangesOnly, HasNone, HasOne, Meanings, WorldOf}
+use Rattle.duk_net.specs.World.{Meanings, WorldOf}
+use Rattle.duk_stations.specs.Places.{ChangesOnly}
 use Rattle.duk_net.specs.declared.event.End.{End}
 use Rattle.duk_net.specs.declared.event.End.TheVariants as ends
 use Rattle.duk_net.specs.declared.event.Event.{Event}
 use Rattle.duk_net.specs.declared.event.Event.TheVariants as event
 use Rattle.duk_net.specs.declared.outcome.Outcome.{Outcome}
 use Rattle.duk_net.specs.declared.outcome.Outcome.TheVariants as came
-use Rattle.duk_net.proofs.used_once.AboveUsed.{WorldLaws}
+use Rattle.duk_stations.proofs.PlacesInLists.{as_many, not_missing}
+use Rattle.duk_stations.proofs.StoreFaults.{restart_reports, two_faults}
+use Rattle.duk_net.proofs.used_once.WorldSafe.{WorldLaws}
 use Rattle.duk_net.proofs.calm_stores.CalmStores.{StepFacts, reached_stores, step_facts}
 use Rattle.duk_net.proofs.accepted_once.AcceptedOnce.{AnswerLaws}
 use Rattle.duk_net.proofs.worlds.ReachedByMoves.{reached_step}
-
--- a list in which an item is put at a place is as long as before
-set_length : {A : Type 0} (things : List A) (place : ℕ) (thing : A) → length (slice_set things place thing) ≡ length things
-set_length [] place thing = refl
-set_length (first ∷ things) zero thing = refl
-set_length (first ∷ things) (suc place) thing = ap suc (set_length things place thing)
-
--- as many terminals, as a terminal is restarted
-as_many : {C : Type 0} (t : ℕ) (P : TerminalOf C → TerminalOf C → Type 0) (old new : List (TerminalOf C)) → ChangesOnly t P old new → length new ≡ length old
-as_many t P old new acts = ap length acts.others ∙ set_length old acts.place acts.after
-
--- one that is there is not missing
-not_missing : {A : Type 0} (things : List A) (number : ℕ) → HasOne things number → ¬ HasNone things number
-not_missing things number one (inl none) = omega (arith, none, one.number_is)
-not_missing things number one (inr past) = omega (arith, past, one.number_is, one.within)
-
--- the fault of a store's restart is one of two
-two_faults : {V : Type 0} (old new : StoreState V) (why : StoreFault) → IsRestartFault old new why → (why ≡ store_fault.Device) ⊎ (why ≡ store_fault.Damaged)
-two_faults old new store_fault.Device is = inl refl
-two_faults old new store_fault.Damaged is = inr refl
-two_faults old new _ is = absurd is
-
--- a terminal's refusal to restart is one of the two
-term_reports : {C L I : Type 0} (m : Meanings C L I) (before after : TerminalOf C) (why : TermFault) → TerminalRestartRefused m.cell before after why → IsCellFault why store_fault.Device ⊎ IsCellFault why store_fault.Damaged
-term_reports m before after (term_fault.Store why) refused = elim refused.cause [
-  | inl failed ↦ two_faults (m.cell.state_of before.cell) (m.cell.state_of after.cell) why failed.fault_is
-  | inr (damaged, none) ↦ inr damaged
-]
-term_reports m before after _ refused = absurd refused
 
 -- and so is the host's, if it is not out of memory
 host_reports : {C L I : Type 0} (m : Meanings C L I) (old new : HostOf L I) (why : HostFault) → why ≢ host_fault.NoMemory → HostRestartRefused m.host.log old new why
@@ -80,7 +47,7 @@ not_armed end _ up reports = reports
 term_up : {C L I : Type 0} (m : Meanings C L I) (old : WorldOf C L I) (t : ℕ) (outcome : Outcome) (new : WorldOf C L I) (acts : ChangesOnly t (TakesRestart m.cell t outcome) old.terminals new.terminals)
     → HasSoundStores m old → ((end : End) → IsCalmAt m old end) → StepFacts m old outcome new → ReportsBroughtUp outcome
 term_up m old t (came.TermNext u next) new acts sound calm facts = tt
-term_up m old t (came.TermFaulted u why) new acts sound calm facts = elim (term_reports m acts.before acts.after why acts.changed.1) [
+term_up m old t (came.TermFaulted u why) new acts sound calm facts = elim (restart_reports m.cell acts.before acts.after why acts.changed.1) [
   | inl device ↦ absurd (facts.device (ends.Term t) (calm (ends.Term t)) (acts.changed.0, device))
   | inr damaged ↦ absurd (facts.damaged sound (ends.Term t) (acts.changed.0, damaged))
 ]
@@ -106,9 +73,9 @@ step_up m old _ outcome new there step sound calm facts = absurd there
 
 -- what is there stays there, where there are as many terminals
 restart_there : {C L I : Type 0} (old new : WorldOf C L I) (event : Event) → length new.terminals ≡ length old.terminals → IsRestartEvent old event → IsRestartEvent new event
-restart_there old new (event.RestartTerm t) as_many there = record { place = there.place; number_is = there.number_is; within = subst (λ n. there.place < n) (sym as_many) there.within }
-restart_there old new event.RestartHost as_many there = tt
-restart_there old new _ as_many there = absurd there
+restart_there old new (event.RestartTerm t) many there = record { place = there.place; number_is = there.number_is; within = subst (λ n. there.place < n) (sym many) there.within }
+restart_there old new event.RestartHost many there = tt
+restart_there old new _ many there = absurd there
 
 pub all_up : {C L I : Type 0} (m : Meanings C L I) → WorldLaws m.cell → AnswerLaws → (old new : WorldOf C L I) (events : List Event) (outcomes : List Outcome) → Reached m old
     → HasSoundStores m old → ((end : End) → IsCalmAt m old end) → All (IsRestartEvent old) events → Run m old events outcomes new → All ReportsBroughtUp outcomes × ((end : End) → IsCalmAt m new end)

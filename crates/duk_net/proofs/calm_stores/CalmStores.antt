@@ -1,14 +1,12 @@
 -- Sound stores report no damage, and a calm store reports no failed device step before it is armed.
-use Rattle.std.proofs.Common.{◌≡◌, ◌≢◌, ◌⊎◌, ◌+◌, ◌++◌, ◌∷◌, [], zero, suc, ℕ, List, Some, None, inl, inr, refl, sym, ap, subst, ◌∙◌, arith}
-use Rattle.std.specs.List.{All, Any}
+use Rattle.std.proofs.Common.{◌≡◌, ◌≢◌, ◌⊎◌, ℕ, List, Some, inl, inr, refl, sym, ap, subst, ◌∙◌}
+use Rattle.std.specs.List.{All}
 use Rattle.std.proofs.lemmas.List.Elements.{All-contains, All-nil, All-push}
-use Rattle.std.proofs.lemmas.Option.{slice_get-get_or}
-use Rattle.std.proofs.Math.ListN.{get_or}
-use Rattle.std.proofs.lemmas.List.Quantifiers.{Any-push}
+use Rattle.std.proofs.lemmas.Bool.Decides.{eqb_tells}
 use Rattle.duk_host.specs.Host.{HostOf}
 use Rattle.duk_host.specs.declared.fault.HostFault.{HostFault}
 use Rattle.duk_host.specs.declared.fault.HostFault.TheVariants as host_fault
-use Rattle.duk_store.specs.Cell.{CellMeaning, Kept}
+use Rattle.duk_store.specs.Cell.{CellMeaning}
 use Rattle.duk_store.specs.declared.fault.StoreFault.{StoreFault}
 use Rattle.duk_store.specs.declared.fault.StoreFault.TheVariants.{Damaged, Device}
 use Rattle.duk_term.specs.Load.{Loading}
@@ -17,40 +15,37 @@ use Rattle.duk_term.specs.declared.fault.TermFault.{TermFault}
 use Rattle.duk_term.specs.declared.purchase.Purchase.{Purchase}
 use Rattle.duk_net.specs.Arm.{ArmsCell, ArmsHost, ArmsTerminal}
 use Rattle.duk_net.specs.Begin.{Begins}
-use Rattle.duk_net.specs.Calm.{FailsOnceArmed, HasSoundCell, HasSoundStores, IsCalmAt, ReportsArming, ReportsFault, ReportsNoDamage}
+use Rattle.duk_net.specs.Calm.{FailsOnceArmed, HasSoundCell, HasSoundStores, IsCalmAt, ReportsArming, ReportsFault, ReportsNoDamage, StaysCalm}
 use Rattle.duk_net.specs.Down.{TakesAnswer}
 use Rattle.duk_net.specs.Load.{TakesLoad}
 use Rattle.duk_net.specs.Reached.{CallLeads, Reached}
 use Rattle.duk_net.specs.Restart.{IsHostLeft, RestartsHost, TakesRestart}
 use Rattle.duk_net.specs.Step.{Step}
 use Rattle.duk_net.specs.Up.{ReachesHost}
-use Rattle.duk_net.specs.World.{ChangesOnly, Frame, IsAt, Meanings, WorldOf}
+use Rattle.duk_net.specs.World.{Frame, Meanings, WorldOf}
+use Rattle.duk_stations.specs.Places.{ChangesOnly, IsAt}
 use Rattle.duk_net.specs.declared.event.End.{End}
 use Rattle.duk_net.specs.declared.event.End.TheVariants as ends
 use Rattle.duk_net.specs.declared.event.Event.{Event}
 use Rattle.duk_net.specs.declared.event.Event.TheVariants as event
 use Rattle.duk_net.specs.declared.outcome.Outcome.{Outcome}
 use Rattle.duk_net.specs.declared.outcome.Outcome.TheVariants as came
-use Rattle.duk_net.proofs.used_once.AboveUsed.{KeptSafe, WorldLaws, books_of}
+use Rattle.duk_stations.proofs.Calm.{CalmSince, calm_first, calm_left, calm_more}
+use Rattle.duk_stations.proofs.NoUsedKey.{is_body}
+use Rattle.duk_stations.proofs.PlacesInLists.{after_at, all_at, at_contains, before_at}
+use Rattle.duk_stations.proofs.StoreFaults.{FindsBodies, PreservesCalm, RefusesTerminal, nature_kept, no_reply_fault, same_kept, same_terminal, terminal_begin_refused, terminal_load_refused, terminal_restart_refused}
 use Rattle.duk_net.proofs.accepted_once.AcceptedOnce.{AnswerLaws, reached_safe}
-use Rattle.duk_net.proofs.completed_by_host.CompletedByHost.{any_stays, last_or_before}
 use Rattle.duk_net.proofs.calm_stores.FoundIsUsable.{FindsUsable, reached_usable}
 use Rattle.duk_net.proofs.worlds.ReachedByMoves.{leads_all}
-use Rattle.duk_net.proofs.calm_stores.StoreFaults.{FindsBodies, IsKeptBody, PreservesCalm, RefusesHost, RefusesTerm, begin_refused, handle_refused, host_restart_refused, load_refused, nature_kept, reply_refused, same_kept, term_restart_refused}
-use Rattle.duk_net.proofs.worlds.TerminalsAfterwards.{after_acts, at_contains, before_acts}
-use Rattle.duk_net.proofs.used_once.UsedOnce.{reached_is_safe}
+use Rattle.duk_net.proofs.calm_stores.StoreFaults.{RefusesHost, handle_refused, host_restart_refused}
+use Rattle.duk_net.proofs.used_once.WorldSafe.{WorldLaws, reached_is_safe, rest_of}
 
 -- what is known of a world's stores: they are honest, and a restart finds what it is to find
 pub record KnownStores {C L I : Type 0} (m : Meanings C L I) (world : WorldOf C L I) : Type 0 where
   pub log : (m.host.log.state_of world.host.log).honest
   pub usable : FindsUsable (m.host.log.state_of world.host.log)
   pub cells : (t : ℕ) (terminal : TerminalOf C) → IsAt world.terminals t terminal → (m.cell.state_of terminal.cell).honest
-  pub bodies : (t : ℕ) (terminal : TerminalOf C) → IsAt world.terminals t terminal → FindsBodies (m.cell.state_of terminal.cell)
-
--- what is safe to find is a body, where it is anything
-kept_body : (books : _) (t : ℕ) (kept : Kept) → KeptSafe books t kept → IsKeptBody kept
-kept_body books t None safe = tt
-kept_body books t (Some body) safe = safe.safe.again.is_body body (inl safe.body_is)
+  pub bodies : (t : ℕ) (terminal : TerminalOf C) → IsAt world.terminals t terminal → FindsBodies m.cell terminal.cell
 
 -- so it is in every world that is reached
 pub reached_stores : {C L I : Type 0} (m : Meanings C L I) → WorldLaws m.cell → AnswerLaws → (world : WorldOf C L I) → Reached m world → KnownStores m world
@@ -59,8 +54,8 @@ reached_stores m laws answer world reached =
     record {
       log = (reached_safe m answer world reached).honest;
       usable = reached_usable m answer world reached;
-      cells = λ t terminal at. (safe.terminals t terminal at).honest;
-      bodies = λ t terminal at kept found. kept_body (books_of world) t kept ((safe.terminals t terminal at).kept kept found);
+      cells = λ t terminal at. (safe.stations.each t terminal at).honest;
+      bodies = λ t terminal at bytes found. is_body laws.registers (rest_of world) t bytes ((safe.stations.each t terminal at).kept (Some bytes) found);
     }
 
 -- what a step does to sound and calm stores, and which faults it reports
@@ -95,17 +90,12 @@ record CellFacts {C : Type 0} (cell : CellMeaning C) (t : ℕ) (outcome : Outcom
 sound_at : {C L I : Type 0} (m : Meanings C L I) (world : WorldOf C L I) → HasSoundStores m world → (t : ℕ) (terminal : TerminalOf C) → IsAt world.terminals t terminal → (m.cell.state_of terminal.cell).sound
 sound_at m world sound t terminal at = All-contains (HasSoundCell m) world.terminals terminal sound.cells (at_contains world.terminals t terminal at)
 
--- what holds of each terminal by its number holds of all
-pub all_at : {C : Type 0} (P : TerminalOf C → Type 0) (terminals : List (TerminalOf C)) → ((t : ℕ) (terminal : TerminalOf C) → IsAt terminals t terminal → P terminal) → All P terminals
-all_at P terminals each place default within =
-    each (place + 1) (get_or terminals place default) (record { place = place; number_is = refl; thing_is = slice_get-get_or terminals place default within })
-
 -- a terminal's calm cell after a step of that terminal or another one
 calm_after : {C L I : Type 0} (m : Meanings C L I) (old new : WorldOf C L I) (t : ℕ) (P : TerminalOf C → TerminalOf C → Type 0) (outcome : Outcome) (acts : ChangesOnly t P old.terminals new.terminals)
     → CellFacts m.cell t outcome acts.before acts.after → new.host ≡ old.host → (end : End) → IsCalmAt m old end → ¬ ReportsArming end outcome → IsCalmAt m new end
 calm_after m old new t P outcome acts facts host ends.Host calm unarmed = rw host calm
-calm_after m old new t P outcome acts facts host (ends.Term u) calm unarmed = λ terminal at. elim (after_acts t P old.terminals new.terminals acts u terminal at) [
-  | inl (same, is) ↦ rw is (facts.calm (subst (λ u. IsCalmAt m old (ends.Term u)) same calm acts.before (before_acts t P old.terminals new.terminals acts))
+calm_after m old new t P outcome acts facts host (ends.Term u) calm unarmed = λ terminal at. elim (after_at t P old.terminals new.terminals acts u terminal at) [
+  | inl (same, is) ↦ rw is (facts.calm (subst (λ u. IsCalmAt m old (ends.Term u)) same calm acts.before (before_at t P old.terminals new.terminals acts))
       (subst (λ u. ¬ ReportsArming (ends.Term u) outcome) same unarmed))
   | inr (other, was) ↦ calm terminal was
 ]
@@ -114,12 +104,12 @@ calm_after m old new t P outcome acts facts host (ends.Term u) calm unarmed = λ
 terminal_step : {C L I : Type 0} (m : Meanings C L I) (old new : WorldOf C L I) (t : ℕ) (P : TerminalOf C → TerminalOf C → Type 0) (outcome : Outcome) (acts : ChangesOnly t P old.terminals new.terminals)
     → KnownStores m old → new.host ≡ old.host → CellFacts m.cell t outcome acts.before acts.after → StepFacts m old outcome new
 terminal_step m old new t P outcome acts known host facts =
-    let was = before_acts t P old.terminals new.terminals acts in
+    let was = before_at t P old.terminals new.terminals acts in
     let honest = known.cells t acts.before was in
     record {
       sound = λ sound. record {
         log = rw host sound.log;
-        cells = all_at (HasSoundCell m) new.terminals (λ u terminal at. elim (after_acts t P old.terminals new.terminals acts u terminal at) [
+        cells = all_at (HasSoundCell m) new.terminals (λ u terminal at. elim (after_at t P old.terminals new.terminals acts u terminal at) [
           | inl (same, is) ↦ rw is (facts.sound honest (sound_at m old sound t acts.before was))
           | inr (other, stood) ↦ sound_at m old sound u terminal stood
         ]);
@@ -146,29 +136,30 @@ refused_about : (t u : ℕ) (why : TermFault) (end : End) (fault : StoreFault) �
 refused_about t u why ends.Host fault is reports = absurd reports
 refused_about t u why (ends.Term v) fault is reports = ap ends.Term (sym reports.0 ∙ is)
 
-reported_refused : {C : Type 0} (cell : CellMeaning C) (t u : ℕ) (why : TermFault) (before after : TerminalOf C) → u ≡ t → RefusesTerm cell before after why → CellFacts cell t (came.TermFaulted u why) before after
+reported_refused : {C : Type 0} (cell : CellMeaning C) (t u : ℕ) (why : TermFault) (before after : TerminalOf C) → u ≡ t → RefusesTerminal cell before after why → CellFacts cell t (came.TermFaulted u why) before after
 reported_refused cell t u why before after is refuses = record {
   about = λ end fault. refused_about t u why end fault is;
   sound = refuses.keeps.sound;
   calm = λ calm unarmed. refuses.keeps.calm calm;
-  device = λ calm reports. refuses.device calm reports.1;
-  damaged = λ honest sound reports. refuses.damaged honest sound reports.1;
+  device = λ calm reports. refuses.spares.device calm reports.1;
+  damaged = λ honest sound reports. refuses.spares.damaged honest sound reports.1;
 }
 
 load_facts : {C : Type 0} (cell : CellMeaning C) (t : ℕ) (asked : Loading) (outcome : Outcome) (before after : TerminalOf C) → TakesLoad cell t asked outcome before after → CellFacts cell t outcome before after
 load_facts cell t asked (came.Loaded u iksn) before after takes = reported_plainly cell t (came.Loaded u iksn) before after (λ end fault reports. reports) (nature_kept _ _ takes.2.kept.settles.nature)
-load_facts cell t asked (came.TermFaulted u why) before after takes = reported_refused cell t u why before after takes.0 (load_refused cell asked before after why takes.1)
+load_facts cell t asked (came.TermFaulted u why) before after takes = reported_refused cell t u why before after takes.0 (terminal_load_refused cell asked before after why takes.1)
 load_facts cell t asked _ before after takes = absurd takes
 
 down_facts : {C : Type 0} (cell : CellMeaning C) (t : ℕ) (frame : Frame) (outcome : Outcome) (before after : TerminalOf C) → TakesAnswer t frame outcome before after → CellFacts cell t outcome before after
 down_facts cell t frame (came.Done u ksn code) before after takes = reported_plainly cell t (came.Done u ksn code) before after (λ end fault reports. reports) (rw takes.1.after_is (same_kept (cell.state_of before.cell)))
 down_facts cell t frame (came.GotRefusal u ksn reason) before after takes = reported_plainly cell t (came.GotRefusal u ksn reason) before after (λ end fault reports. reports) (rw takes.1.after_is (same_kept (cell.state_of before.cell)))
-down_facts cell t frame (came.TermFaulted u why) before after takes = reported_refused cell t u why before after takes.0 (reply_refused cell before after frame.items why takes.1 takes.2)
+down_facts cell t frame (came.TermFaulted u why) before after takes =
+    reported_refused cell t u why before after takes.0 (same_terminal cell before after why takes.2 (λ reported. no_reply_fault before.state frame.items why reported takes.1))
 down_facts cell t frame _ before after takes = absurd takes
 
-restart_facts : {C : Type 0} (cell : CellMeaning C) (t : ℕ) (outcome : Outcome) (before after : TerminalOf C) → FindsBodies (cell.state_of before.cell) → TakesRestart cell t outcome before after → CellFacts cell t outcome before after
+restart_facts : {C : Type 0} (cell : CellMeaning C) (t : ℕ) (outcome : Outcome) (before after : TerminalOf C) → FindsBodies cell before.cell → TakesRestart cell t outcome before after → CellFacts cell t outcome before after
 restart_facts cell t (came.TermNext u next) before after bodies takes = reported_plainly cell t (came.TermNext u next) before after (λ end fault reports. reports) (nature_kept _ _ takes.1.restarted.cell.settles.nature)
-restart_facts cell t (came.TermFaulted u why) before after bodies takes = reported_refused cell t u why before after takes.0 (term_restart_refused cell before after why (λ honest. bodies) takes.1)
+restart_facts cell t (came.TermFaulted u why) before after bodies takes = reported_refused cell t u why before after takes.0 (terminal_restart_refused cell before after why bodies takes.1)
 restart_facts cell t _ before after bodies takes = absurd takes
 
 arm_facts : {C L I : Type 0} (m : Meanings C L I) (t steps passed : ℕ) (armed : End) (before after : TerminalOf C) → armed ≡ ends.Term t → ArmsCell m steps before after → CellFacts m.cell t (came.Armed armed passed) before after
@@ -189,7 +180,7 @@ begin_step m old t purchase (came.Sent u k ksn) new known begins =
 begin_step m old t purchase (came.TermFaulted u why) new known begins =
     let acts = begins.1.terminal in
     terminal_step m old new t _ (came.TermFaulted u why) acts known (ap (λ world. world.host) begins.1.rest)
-    (reported_refused m.cell t u why acts.before acts.after begins.0 (begin_refused m.cell acts.before acts.after why acts.changed))
+    (reported_refused m.cell t u why acts.before acts.after begins.0 (terminal_begin_refused m.cell acts.before acts.after why acts.changed))
 begin_step m old t purchase _ new known begins = absurd begins
 
 arm_term_step : {C L I : Type 0} (m : Meanings C L I) (old : WorldOf C L I) (t steps : ℕ) (outcome : Outcome) (new : WorldOf C L I) → KnownStores m old → ArmsTerminal m old t steps outcome new → StepFacts m old outcome new
@@ -242,8 +233,8 @@ host_refused m why before after refuses = record {
   about = host_about why;
   sound = refuses.keeps.sound;
   calm = λ calm unarmed. refuses.keeps.calm calm;
-  device = refuses.device;
-  damaged = refuses.damaged;
+  device = refuses.spares.device;
+  damaged = refuses.spares.damaged;
 }
 
 up_step : {C L I : Type 0} (m : Meanings C L I) (old : WorldOf C L I) (k : ℕ) (outcome : Outcome) (new : WorldOf C L I) → KnownStores m old → ReachesHost m old k outcome new → StepFacts m old outcome new
@@ -258,7 +249,7 @@ up_step m old k (came.Refused n ksn reason) new known up =
     host_step m old new (came.Refused n ksn reason) known (ap (λ world. world.terminals) up.answered.rest)
     (host_plainly m (came.Refused n ksn reason) old.host new.host (λ end fault reports. reports) (rw up.refused.same (same_kept (m.host.log.state_of old.host.log))))
 up_step m old k (came.HostFaulted why) new known up =
-    host_step m old new (came.HostFaulted why) known (ap (λ world. world.terminals) up.rest) (host_refused m why old.host new.host (handle_refused m.host up.request.items old.host new.host why up.faulted))
+    host_step m old new (came.HostFaulted why) known (ap (λ world. world.terminals) up.rest) (host_refused m why old.host new.host (handle_refused m.host old.host new.host up.request.items why up.faulted))
 up_step m old k _ new known up = absurd up
 
 restart_host_step : {C L I : Type 0} (m : Meanings C L I) (old : WorldOf C L I) (outcome : Outcome) (new : WorldOf C L I) → KnownStores m old → RestartsHost m old outcome new → StepFacts m old outcome new
@@ -267,7 +258,7 @@ restart_host_step m old (came.HostUsed used) new known restarts =
     (host_plainly m (came.HostUsed used) old.host new.host (λ end fault reports. reports) (nature_kept _ _ restarts.host.log.settles.nature))
 restart_host_step m old (came.HostFaulted why) new known restarts =
     host_step m old new (came.HostFaulted why) known (ap (λ world. world.terminals) restarts.rest)
-    (host_refused m why old.host new.host (host_restart_refused m.host.log old.host new.host why (λ honest. known.usable) restarts.host))
+    (host_refused m why old.host new.host (host_restart_refused m.host old.host new.host why (λ honest. known.usable) restarts.host))
 restart_host_step m old _ new known restarts = absurd restarts
 
 arm_host_step : {C L I : Type 0} (m : Meanings C L I) (old : WorldOf C L I) (steps : ℕ) (outcome : Outcome) (new : WorldOf C L I) → KnownStores m old → ArmsHost m old steps outcome new → StepFacts m old outcome new
@@ -310,7 +301,7 @@ step_facts m old (event.RestartTerm t) outcome new known step = elim step [
   | inr change ↦
       let acts = change.terminal in
       terminal_step m old new t _ outcome acts known (ap (λ world. world.host) change.rest)
-      (restart_facts m.cell t outcome acts.before acts.after (known.bodies t acts.before (before_acts t _ old.terminals new.terminals acts)) acts.changed)
+      (restart_facts m.cell t outcome acts.before acts.after (known.bodies t acts.before (before_at t _ old.terminals new.terminals acts)) acts.changed)
 ]
 step_facts m old event.RestartHost outcome new known step = restart_host_step m old outcome new known step
 step_facts m old (event.Arm ends.Host steps) outcome new known step = arm_host_step m old steps outcome new known step
@@ -320,7 +311,7 @@ step_facts m old (event.Arm (ends.Term t) steps) outcome new known step = arm_te
 left_facts : {C L I : Type 0} (m : Meanings C L I) (old new : WorldOf C L I) → KnownStores m old → IsHostLeft m old new → StepFacts m old (came.HostFaulted host_fault.NoMemory) new
 left_facts m old new known left =
     host_step m old new (came.HostFaulted host_fault.NoMemory) known (ap (λ world. world.terminals) left.rest)
-    (host_refused m host_fault.NoMemory old.host new.host (host_restart_refused m.host.log old.host new.host host_fault.NoMemory (λ honest. known.usable) left.host))
+    (host_refused m host_fault.NoMemory old.host new.host (host_restart_refused m.host old.host new.host host_fault.NoMemory (λ honest. known.usable) left.host))
 
 -- what a call does: sound stores stay so, and report no damage
 record SoundSince {C L I : Type 0} (m : Meanings C L I) (outcomes : List Outcome) (world : WorldOf C L I) : Type 0 where
@@ -338,86 +329,30 @@ leads_sound m laws answer old new outcomes reached sound leads =
     old new outcomes reached (record { sound = sound; none = All-nil ReportsNoDamage }) leads in
     (since.sound, since.none)
 
--- whether a number is this one
-same_number : (one other : ℕ) → (one ≡ other) ⊎ (one ≢ other)
-same_number zero zero = inl refl
-same_number zero (suc other) = inr (λ same. omega (arith, same))
-same_number (suc one) zero = inr (λ same. omega (arith, same))
-same_number (suc one) (suc other) = elim (same_number one other) [
-  | inl same ↦ inl (ap suc same)
-  | inr apart ↦ inr (λ same. apart (omega (arith, same)))
-]
-
 -- whether an end is this one
 same_end : (one other : End) → (one ≡ other) ⊎ (one ≢ other)
 same_end ends.Host ends.Host = inl refl
-same_end ends.Host (ends.Term u) = inr (λ same. cc)
-same_end (ends.Term t) ends.Host = inr (λ same. cc)
-same_end (ends.Term t) (ends.Term u) = elim (same_number t u) [
-  | inl same ↦ inl (ap ends.Term same)
-  | inr other ↦ inr (λ same. other cc)
+same_end (ends.Term t) (ends.Term u) = elim (eqb_tells t u) [
+  | inl same ↦ inl (ap ends.Term same.1)
+  | inr apart ↦ inr (λ same. apart.1 cc)
 ]
+same_end _ _ = inr (λ same. cc)
 
 -- whether an outcome says that the store of an end was armed
 reports_arming : (end : End) (outcome : Outcome) → ReportsArming end outcome ⊎ ¬ ReportsArming end outcome
 reports_arming end (came.Armed armed steps) = same_end armed end
 reports_arming end _ = inr (λ reports. reports)
 
--- what a call does: the store of an end was armed, or it is calm yet; and it reported no failed
--- device step before it was armed
-record CalmSince {C L I : Type 0} (m : Meanings C L I) (end : End) (outcomes : List Outcome) (world : WorldOf C L I) : Type 0 where
-  calm : Any (ReportsArming end) outcomes ⊎ IsCalmAt m world end
-  armed : FailsOnceArmed end outcomes
-
--- no outcome at all says it
-none_fails : (end : End) → FailsOnceArmed end []
-none_fails end [] later outcome is reports = cc
-none_fails end (first ∷ earlier) later outcome is reports = cc
-
--- one outcome more
-fails_once_armed : (end : End) (outcomes : List Outcome) (last : Outcome) → FailsOnceArmed end outcomes → Any (ReportsArming end) outcomes ⊎ (¬ ReportsFault last end Device) → FailsOnceArmed end (outcomes ++ last ∷ [])
-fails_once_armed end outcomes last before either earlier later outcome is reports = elim (last_or_before outcomes earlier later last outcome is) [
-  | inl (same, here) ↦ rw same (elim either [
-    | inl armed ↦ armed
-    | inr spared ↦ absurd (spared (rw here reports))
-  ])
-  | inr (rest, split) ↦ before earlier rest outcome split reports
-]
-
--- one step more
-calm_more : {C L I : Type 0} (m : Meanings C L I) (end : End) (outcomes : List Outcome) (old : WorldOf C L I) (outcome : Outcome) (new : WorldOf C L I) → CalmSince m end outcomes old → StepFacts m old outcome new
-    → CalmSince m end (outcomes ++ outcome ∷ []) new
-calm_more m end outcomes old outcome new since facts = elim since.calm [
-  | inl armed ↦ record { calm = inl (any_stays (ReportsArming end) outcomes outcome armed); armed = fails_once_armed end outcomes outcome since.armed (inl armed) }
-  | inr calm ↦ record {
-    calm = elim (reports_arming end outcome) [
-      | inl armed ↦ inl (Any-push (ReportsArming end) outcomes outcome armed)
-      | inr unarmed ↦ inr (facts.calm end calm unarmed)
-    ];
-    armed = fails_once_armed end outcomes outcome since.armed (inr (facts.device end calm));
-  }
-]
-
--- what the host's restart that is refused memory leaves
-calm_left : {C L I : Type 0} (m : Meanings C L I) (end : End) (outcomes : List Outcome) (old new : WorldOf C L I) → CalmSince m end outcomes old → StepFacts m old (came.HostFaulted host_fault.NoMemory) new
-    → CalmSince m end outcomes new
-calm_left m end outcomes old new since facts = record {
-  calm = elim since.calm [
-    | inl armed ↦ inl armed
-    | inr calm ↦ inr (facts.calm end calm (λ reports. reports))
-  ];
-  armed = since.armed;
-}
-
--- no outcome at all says that a store was armed
-none_armed : (end : End) → ¬ Any (ReportsArming end) []
-none_armed end any = omega (arith, any.2)
-
+-- what a call does: a calm store stays so until it is armed, and reports no failed device step before
 pub leads_calm : {C L I : Type 0} (m : Meanings C L I) → WorldLaws m.cell → AnswerLaws → (end : End) (old new : WorldOf C L I) (outcomes : List Outcome) → Reached m old → IsCalmAt m old end → CallLeads m old outcomes new
-    → (Any (ReportsArming end) outcomes ⊎ IsCalmAt m new end) × FailsOnceArmed end outcomes
+    → StaysCalm m end new outcomes × FailsOnceArmed end outcomes
 leads_calm m laws answer end old new outcomes reached calm leads =
-    let since = leads_all m (CalmSince m end)
-    (λ outcomes before after event outcome reached since step. calm_more m end outcomes before outcome after since (step_facts m before event outcome after (reached_stores m laws answer before reached) step))
-    (λ outcomes before after reached since left. calm_left m end outcomes before after since (left_facts m before after (reached_stores m laws answer before reached) left))
-    old new outcomes reached (record { calm = inr calm; armed = none_fails end }) leads in
-    (since.calm, since.armed)
+    let fails = λ (outcome : Outcome). ReportsFault outcome end Device in
+    leads_all m (λ outcomes world. CalmSince (ReportsArming end) fails (IsCalmAt m world end) outcomes)
+    (λ outcomes before after event outcome reached since step.
+    let facts = step_facts m before event outcome after (reached_stores m laws answer before reached) step in
+    calm_more (ReportsArming end) fails (IsCalmAt m before end) (IsCalmAt m after end) outcomes outcome (reports_arming end outcome) (facts.device end) (facts.calm end) since)
+    (λ outcomes before after reached since left.
+    let facts = left_facts m before after (reached_stores m laws answer before reached) left in
+    calm_left (ReportsArming end) fails (IsCalmAt m before end) (IsCalmAt m after end) outcomes (λ still. facts.calm end still (λ reports. reports)) since)
+    old new outcomes reached (calm_first (ReportsArming end) fails (IsCalmAt m old end) calm) leads

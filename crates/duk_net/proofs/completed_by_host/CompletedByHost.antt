@@ -2,7 +2,7 @@
 use Rattle.std.proofs.Common.{◌≡◌, ◌⊎◌, ◌++◌, ◌∷◌, [], ℕ, List, AllPairs, Any, Contains, length, inl, inr, refl, sym, ap, subst, arith, ◌∙◌}
 use Rattle.std.proofs.Math.ListN.{get_or}
 use Rattle.std.proofs.lemmas.List.{get_or_append_left, get_or_push, length-append, length_push}
-use Rattle.std.proofs.lemmas.List.Elements.{Contains-append_left, Contains-get_or, Contains-push_cases}
+use Rattle.std.proofs.lemmas.List.Elements.{Contains-get_or, Contains-push_cases}
 use Rattle.std.proofs.lemmas.List.Quantifiers.{Any-push, all_pairs_push}
 use Rattle.duk_frame.specs.Answer.{IsAnswer, IsReply}
 use Rattle.duk_frame.specs.declared.answer.AnswerFrame.TheVariants.{Refusal, Reply}
@@ -21,7 +21,8 @@ use Rattle.duk_net.specs.declared.outcome.Outcome.TheVariants as came
 use Rattle.duk_net.proofs.accepted_once.AcceptedOnce.{any_cases}
 use Rattle.duk_net.proofs.completed_by_host.PendingIsSent.{OwnPending, SendsNumber, SentByOwners, Reports, done_by_host, done_is_over, pending_comes, pending_safe, sends_number, step_reports, used_stays}
 use Rattle.duk_net.proofs.worlds.ReachedByMoves.{leads_all, reached_step}
-use Rattle.duk_net.proofs.used_once.AboveUsed.{BegunIsRequest}
+use Rattle.duk_stations.proofs.Calm.{any_stays, last_or_before}
+use Rattle.duk_stations.proofs.OwnKey.{BegunIsRequest}
 use Rattle.duk_net.proofs.worlds.HostAnswers.{OneReading}
 use Rattle.duk_net.proofs.accepted_once.RepeatsWereSent.{ExchangeLaws, HostGivesSent, reached_gives, repeat_was_sent}
 use Rattle.duk_net.proofs.worlds.StepChanges.{View, step_view}
@@ -33,24 +34,6 @@ pairs_with_last R things last thing pairs (place, within, is) =
     let among = pairs place (length things) thing within (omega (arith, length_push things last)) in
     subst (λ x. R x last) (get_or_append_left things (last ∷ []) thing place within ∙ is)
     (subst (λ x. R (get_or (things ++ last ∷ []) place thing) x) (get_or_push things last thing (length things) refl) among)
-
--- what is so of some thing of a list stays so where one is added
-pub any_stays : {A : Type 0} (P : A → Type 0) (things : List A) (last : A) → Any P things → Any P (things ++ last ∷ [])
-any_stays P things last (place, thing, within, is, holds) =
-    let among = Contains-append_left things (last ∷ []) thing (place, within, is) in
-    (among.0, thing, among.1, among.2, holds)
-
--- where a list with one more is taken apart at a thing, that is the one, or it stands before
-pub last_or_before : {A : Type 0} (things earlier later : List A) (last thing : A) → things ++ last ∷ [] ≡ earlier ++ thing ∷ later
-    → ((earlier ≡ things) × (last ≡ thing)) ⊎ ((rest : List A) × (things ≡ earlier ++ thing ∷ rest))
-last_or_before [] [] later last thing is = inl (refl, cc)
-last_or_before [] (first ∷ []) later last thing is = cc
-last_or_before [] (first ∷ second ∷ earlier) later last thing is = cc
-last_or_before (first ∷ things) [] later last thing is = inr (things, cc)
-last_or_before (first ∷ things) (other ∷ earlier) later last thing is = elim (last_or_before things earlier later last thing cc) [
-  | inl same ↦ inl (cc, same.1)
-  | inr before ↦ inr (before.0, cc)
-]
 
 -- the number of one request more was not used before
 fresh_number : {C L I : Type 0} (old new : WorldOf C L I) (ksn : Serial) → UsedOnce new.requests → SendsNumber old new ksn → ¬ IsUsedNumber old.requests ksn

@@ -1,19 +1,15 @@
 -- What is pending at the terminals of a world, as the world moves on.
-use Rattle.std.proofs.Common.{◌≡◌, ◌≢◌, ◌⊎◌, ◌++◌, ◌∷◌, [], ℕ, List, All, Contains, Some, None, inl, inr, refl, sym, ap, subst, ◌∙◌}
+use Rattle.std.proofs.Common.{◌≡◌, ◌≢◌, ◌⊎◌, ◌++◌, ◌∷◌, [], ℕ, List, All, Contains, inl, inr, refl, sym, ap, subst, ◌∙◌}
 use Rattle.std.proofs.lemmas.List.Elements.{All-contains, All-head, Contains-append_left, Contains-push}
-use Rattle.duk_store.specs.Cell.{CellMeaning, Kept}
-use Rattle.duk_term.specs.Begin.{BeginRefused, IsBegunUnder, pending_of}
-use Rattle.duk_term.specs.Load.{LoadRefused, Loading}
-use Rattle.duk_term.specs.Reply.{IsPending, completed}
-use Rattle.duk_term.specs.Restart.{Opens, TerminalRestartRefused}
+use Rattle.duk_store.specs.Cell.{CellMeaning}
+use Rattle.duk_term.specs.Begin.{IsBegunUnder, pending_of}
+use Rattle.duk_term.specs.Load.{Loading}
+use Rattle.duk_term.specs.Reply.{IsIdle, IsPending}
 use Rattle.duk_term.specs.Terminal.{TerminalOf}
 use Rattle.duk_term.specs.declared.answer.Answer.TheVariants.{Done}
-use Rattle.duk_term.specs.declared.fault.TermFault.{TermFault}
-use Rattle.duk_term.specs.declared.fault.TermFault.TheVariants as fault
 use Rattle.duk_term.specs.declared.purchase.Purchase.{Purchase}
 use Rattle.duk_term.specs.declared.state.Pending.{Pending}
 use Rattle.duk_term.specs.declared.state.State.{State}
-use Rattle.duk_term.specs.declared.state.State.TheVariants.{Loaded, Stopped}
 use Rattle.duk_tree.specs.Serial.{Serial}
 use Rattle.duk_frame.specs.Answer.{IsReply}
 use Rattle.duk_frame.specs.declared.code.Code.{Code}
@@ -24,31 +20,22 @@ use Rattle.duk_net.specs.Down.{ReportsAnswerOf}
 use Rattle.duk_net.specs.First.{IsFirstWorld, IsNewTerminal}
 use Rattle.duk_net.specs.Load.{TakesLoad}
 use Rattle.duk_net.specs.UsedOnce.{HasNumber, IsSentByOwner, IsUsedNumber}
-use Rattle.duk_net.specs.Owner.{IsOwner}
+use Rattle.duk_stations.specs.Owner.{IsOwner}
 use Rattle.duk_net.specs.Reached.{CallLeads, Moves, Reached}
-use Rattle.duk_net.specs.World.{ChangesOnly, Frame, IsAt, Meanings, ChangesTerminal, WorldOf}
+use Rattle.duk_net.specs.World.{Frame, Meanings, ChangesTerminal, WorldOf}
+use Rattle.duk_stations.specs.Places.{ChangesOnly, IsAt}
 use Rattle.duk_net.specs.declared.outcome.Outcome.{Outcome}
 use Rattle.duk_net.specs.declared.outcome.Outcome.TheVariants as came
-use Rattle.duk_net.specs.declared.owner.Owner.{Owner}
-use Rattle.duk_net.proofs.used_once.AboveUsed.{BegunIsRequest}
-use Rattle.duk_net.proofs.worlds.TerminalsAfterwards.{after_acts, at_contains, before_acts}
+use Rattle.duk_stations.specs.declared.owner.Owner.{Owner}
+use Rattle.duk_stations.proofs.Memory.{Subsides, completed_is_idle, goes_subsides, load_subsides, loaded_is_idle, stopped_is_idle}
+use Rattle.duk_stations.proofs.OwnKey.{BegunIsRequest}
+use Rattle.duk_stations.proofs.Owners.{owner_stays}
+use Rattle.duk_stations.proofs.Terminals.{load_goes}
+use Rattle.duk_stations.proofs.PlacesInLists.{after_at, at_contains, before_at}
 use Rattle.duk_net.proofs.worlds.ReachedByMoves.{reached_all}
-use Rattle.duk_net.proofs.used_once.UsedOnce.{step_owners_stay}
-use Rattle.duk_net.proofs.worlds.StepChanges.{IsQuiet, Touches, View, step_view}
+use Rattle.duk_net.proofs.used_once.UsedOnce.{step_leaves}
+use Rattle.duk_net.proofs.worlds.StepChanges.{IsQuiet, View, step_view}
 use Rattle.duk_net.proofs.worlds.StepChanges as step
-
--- a stopped terminal waits for nothing
-stopped_waits : (state : State) (pending : Pending) → state ≡ Stopped → ¬ IsPending state pending
-stopped_waits state pending is waits = let had = waits.1 in cc
-
--- a terminal with nothing pending waits for nothing
-idle_waits : (state : State) (set : _) (pending : Pending) → state ≡ Loaded set None → ¬ IsPending state pending
-idle_waits state set pending is waits = let had = waits.1 in cc
-
--- after a restart a terminal waits for nothing
-opened_waits : (kept : Kept) (state : State) (pending : Pending) → Opens kept state → ¬ IsPending state pending
-opened_waits None state pending opens waits = let had = waits.1 in cc
-opened_waits (Some body) state pending opens waits = idle_waits state _ pending opens.1 waits
 
 -- a terminal waits for one reply at most
 one_pending : (state : State) (pending other : Pending) → IsPending state pending → IsPending state other → pending ≡ other
@@ -57,56 +44,15 @@ one_pending state pending other is as_well =
     let two = as_well.1 in
     cc
 
--- a terminal waits for nothing that it did not wait for
-abbrev Subsides : {C : Type 0} → TerminalOf C → TerminalOf C → Type 0
-Subsides before after = (pending : Pending) → IsPending after.state pending → IsPending before.state pending
-
--- a terminal that stays as it was waits for nothing new
-same_subsides : {C : Type 0} (before after : TerminalOf C) → after ≡ before → Subsides before after
-same_subsides before after same pending waits = subst (λ terminal. IsPending terminal.state pending) same waits
-
--- a refused load makes nothing pending
-load_refused_subsides : {C : Type 0} (meaning : CellMeaning C) (asked : Loading) (before after : TerminalOf C) (why : TermFault)
-    → LoadRefused meaning asked before after why → Subsides before after
-load_refused_subsides meaning asked before after fault.Stopped refused = same_subsides before after refused.1
-load_refused_subsides meaning asked before after fault.IksnSpent refused = same_subsides before after refused.1
-load_refused_subsides meaning asked before after fault.LoadsSpent refused = same_subsides before after refused.2
-load_refused_subsides meaning asked before after (fault.Block why) refused = same_subsides before after refused.2
-load_refused_subsides meaning asked before after fault.WrongUse refused = same_subsides before after refused.2
-load_refused_subsides meaning asked before after (fault.Store why) refused = λ pending waits. absurd (stopped_waits after.state pending refused.stops.stopped waits)
-load_refused_subsides meaning asked before after _ refused = absurd refused
-
 -- a load makes nothing pending
-load_subsides : {C : Type 0} (meaning : CellMeaning C) (t : ℕ) (asked : Loading) (outcome : Outcome) (before after : TerminalOf C)
-    → TakesLoad meaning t asked outcome before after → Subsides before after
-load_subsides meaning t asked (came.Loaded u iksn) before after takes = λ pending waits. absurd (idle_waits after.state takes.2.set pending takes.2.state_is waits)
-load_subsides meaning t asked (came.TermFaulted u why) before after takes = load_refused_subsides meaning asked before after why takes.1
-load_subsides meaning t asked _ before after takes = absurd takes
-
--- a refused begin makes nothing pending
-begin_refused_subsides : {C : Type 0} (meaning : CellMeaning C) (before after : TerminalOf C) (why : TermFault) → BeginRefused meaning before after why → Subsides before after
-begin_refused_subsides meaning before after fault.Stopped refused = same_subsides before after refused.1
-begin_refused_subsides meaning before after fault.NotLoaded refused = same_subsides before after refused.1
-begin_refused_subsides meaning before after fault.Spent refused = same_subsides before after refused.1
-begin_refused_subsides meaning before after (fault.Store why) refused = λ pending waits. absurd (stopped_waits after.state pending refused.stops.stopped waits)
-begin_refused_subsides meaning before after _ refused = absurd refused
-
--- after a refused restart a terminal waits for nothing
-restart_refused_waits : {C : Type 0} (meaning : CellMeaning C) (before after : TerminalOf C) (why : TermFault) (pending : Pending) → TerminalRestartRefused meaning before after why → ¬ IsPending after.state pending
-restart_refused_waits meaning before after (fault.Store why) pending refused waits = stopped_waits after.state pending refused.stopped waits
-restart_refused_waits meaning before after _ pending refused waits = refused
-
--- where no request goes out nothing becomes pending
-touches_subsides : {C L I : Type 0} (m : Meanings C L I) (before after : TerminalOf C) → Touches m before after → Subsides before after
-touches_subsides m before after (step.begin_refused why refused) = begin_refused_subsides m.cell before after why refused
-touches_subsides m before after (step.restarted restarted) = λ pending waits. absurd (opened_waits restarted.kept after.state pending restarted.opens waits)
-touches_subsides m before after (step.restart_refused why refused) = λ pending waits. absurd (restart_refused_waits m.cell before after why pending refused waits)
-touches_subsides m before after (step.armed steps armed) = λ pending waits. subst (λ state. IsPending state pending) armed.state waits
+load_pends_nothing : {C : Type 0} (cell : CellMeaning C) (t : ℕ) (asked : Loading) (outcome : Outcome) (before after : TerminalOf C) → TakesLoad cell t asked outcome before after → Subsides before.state after.state
+load_pends_nothing cell t asked (came.Loaded u iksn) before after takes = inr (loaded_is_idle after.state takes.2.set takes.2.state_is)
+load_pends_nothing cell t asked (came.TermFaulted u why) before after takes = load_subsides cell before after (Unit {0}) asked (load_goes cell before after (Unit {0}) asked why (λ store is. tt) takes.1)
+load_pends_nothing cell t asked _ before after takes = absurd takes
 
 -- a terminal that is done waits for nothing
-done_waits : {C : Type 0} (frame : Frame) (ksn : Serial) (code : Code) (before after : TerminalOf C) (pending : Pending) → ReportsAnswerOf frame ksn (Done code) before after → ¬ IsPending after.state pending
-done_waits frame ksn code before after pending reported waits =
-    idle_waits after.state reported.was_pending.0 pending (ap (λ terminal. terminal.state) reported.after_is ∙ ap completed reported.was_pending.1) waits
+done_is_idle : {C : Type 0} (frame : Frame) (ksn : Serial) (code : Code) (before after : TerminalOf C) → ReportsAnswerOf frame ksn (Done code) before after → IsIdle after.state
+done_is_idle frame ksn code before after reported = subst IsIdle (sym (ap (λ terminal. terminal.state) reported.after_is)) (completed_is_idle before.state)
 
 -- a terminal waits for the reply to the transaction of a key serial number
 record Waits {C : Type 0} (terminal : TerminalOf C) (ksn : Serial) : Type 0 where
@@ -125,7 +71,7 @@ begun_waits meaning purchase frame sent ksn before after hands waits =
 -- what is pending where a terminal went on is pending there, or was so at another
 acts_cases : {C : Type 0} (t : ℕ) (change : TerminalOf C → TerminalOf C → Type 0) (old new : List (TerminalOf C)) (acts : ChangesOnly t change old new) (u : ℕ) (ksn : Serial) → IsPendingAt new u ksn
     → ((u ≢ t) × IsPendingAt old u ksn) ⊎ ((u ≡ t) × Waits acts.after ksn)
-acts_cases t change old new acts u ksn waits = elim (after_acts t change old new acts u waits.terminal waits.at) [
+acts_cases t change old new acts u ksn waits = elim (after_at t change old new acts u waits.terminal waits.at) [
   | inl here ↦ inr (
     here.0,
     record {
@@ -142,21 +88,24 @@ acts_before : {C : Type 0} (t : ℕ) (change : TerminalOf C → TerminalOf C →
 acts_before t change old new acts ksn waits = record {
   terminal = acts.before;
   pending = waits.pending;
-  at = before_acts t change old new acts;
+  at = before_at t change old new acts;
   is_pending = waits.is_pending;
   ksn_is = waits.ksn_is;
 }
 
 -- where the terminal that goes on waits for nothing new, what is pending was so before
-acts_subside : {C : Type 0} (t : ℕ) (change : TerminalOf C → TerminalOf C → Type 0) (old new : List (TerminalOf C)) → ((before after : TerminalOf C) → change before after → Subsides before after) → ChangesOnly t change old new
+acts_subside : {C : Type 0} (t : ℕ) (change : TerminalOf C → TerminalOf C → Type 0) (old new : List (TerminalOf C)) (acts : ChangesOnly t change old new) → Subsides acts.before.state acts.after.state
     → (u : ℕ) (ksn : Serial) → IsPendingAt new u ksn → IsPendingAt old u ksn
-acts_subside t change old new subsides acts u ksn waits = elim (acts_cases t change old new acts u ksn waits) [
+acts_subside t change old new acts subsides u ksn waits = elim (acts_cases t change old new acts u ksn waits) [
   | inl elsewhere ↦ elsewhere.1
-  | inr here ↦ subst (λ n. IsPendingAt old n ksn) (sym here.0) (acts_before t change old new acts ksn (record {
-    pending = here.1.pending;
-    is_pending = subsides acts.before acts.after acts.changed here.1.pending here.1.is_pending;
-    ksn_is = here.1.ksn_is;
-  }))
+  | inr here ↦ elim subsides [
+    | inl same ↦ subst (λ n. IsPendingAt old n ksn) (sym here.0) (acts_before t change old new acts ksn (record {
+      pending = here.1.pending;
+      is_pending = subst (λ state. IsPending state here.1.pending) same here.1.is_pending;
+      ksn_is = here.1.ksn_is;
+    }))
+    | inr idle ↦ absurd (idle here.1.pending here.1.is_pending)
+  ]
 ]
 
 -- what is pending after a step was so before, or is sent in it
@@ -164,34 +113,29 @@ pub pending_comes : {C L I : Type 0} (m : Meanings C L I) (old : WorldOf C L I) 
     → View m old outcome new → IsPendingAt new.terminals u ksn → IsPendingAt old.terminals u ksn ⊎ Sends u ksn outcome
 pending_comes m old outcome new u ksn (step.nothing same quiet) waits = inl (subst (λ world. IsPendingAt world.terminals u ksn) same waits)
 pending_comes m old outcome new u ksn (step.load t iksn given quiet) waits =
-    inl (acts_subside t _ old.terminals new.terminals (load_subsides m.cell t given.asked outcome) given.terminal u ksn waits)
+    let acts = given.terminal in inl (acts_subside t _ old.terminals new.terminals acts (load_pends_nothing m.cell t given.asked outcome acts.before acts.after acts.changed) u ksn waits)
 pending_comes m old outcome new u ksn (step.send t k purchase sent is begins) waits = elim (acts_cases t _ old.terminals new.terminals begins.terminal u ksn waits) [
   | inl elsewhere ↦ inl elsewhere.1
   | inr here ↦
       let begun = begun_waits m.cell purchase begins.frame sent ksn begins.terminal.before begins.terminal.after begins.terminal.changed here.1 in
       inr (subst (λ outcome. Sends u ksn outcome) (sym is) (sym here.0, begun))
 ]
-pending_comes m old outcome new u ksn (step.terminal t change quiet) waits = inl (acts_subside t _ old.terminals new.terminals (touches_subsides m) change.terminal u ksn waits)
+pending_comes m old outcome new u ksn (step.terminal t change quiet) waits =
+    let acts = change.terminal in inl (acts_subside t _ old.terminals new.terminals acts (goes_subsides m.cell acts.before acts.after acts.changed) u ksn waits)
 pending_comes m old outcome new u ksn (step.accept k n sent code is up) waits = inl (subst (λ terminals. IsPendingAt terminals u ksn) (ap (λ world. world.terminals) up.answered.rest) waits)
 pending_comes m old outcome new u ksn (step.repeat k n sent code is up) waits = inl (subst (λ terminals. IsPendingAt terminals u ksn) (ap (λ world. world.terminals) up.answered.rest) waits)
 pending_comes m old outcome new u ksn (step.refuse k n sent reason is up) waits = inl (subst (λ terminals. IsPendingAt terminals u ksn) (ap (λ world. world.terminals) up.answered.rest) waits)
 pending_comes m old outcome new u ksn (step.done k t frame sent code is at change) waits =
-    inl (acts_subside t _ old.terminals new.terminals (λ before after reported pending waits. absurd (done_waits frame sent code before after pending reported waits)) change.terminal u ksn waits)
+    let acts = change.terminal in inl (acts_subside t _ old.terminals new.terminals acts (inr (done_is_idle frame sent code acts.before acts.after acts.changed)) u ksn waits)
 pending_comes m old outcome new u ksn (step.host touched rest quiet) waits = inl (subst (λ terminals. IsPendingAt terminals u ksn) (ap (λ world. world.terminals) rest) waits)
 
 -- the requests that were sent stay in a step
-pub requests_stay : {C L I : Type 0} (m : Meanings C L I) (old : WorldOf C L I) (outcome : Outcome) (new : WorldOf C L I) (frame : Frame)
+requests_stay : {C L I : Type 0} (m : Meanings C L I) (old : WorldOf C L I) (outcome : Outcome) (new : WorldOf C L I) (frame : Frame)
     → View m old outcome new → Contains old.requests frame → Contains new.requests frame
-requests_stay m old outcome new frame (step.nothing same quiet) sent = subst (λ world. Contains world.requests frame) (sym same) sent
-requests_stay m old outcome new frame (step.load t iksn given quiet) sent = subst (λ world. Contains world.requests frame) (sym given.rest) sent
-requests_stay m old outcome new frame (step.send t k purchase ksn is begins) sent =
-    subst (λ world. Contains world.requests frame) (sym begins.rest) (Contains-append_left old.requests (begins.frame ∷ []) frame sent)
-requests_stay m old outcome new frame (step.terminal t change quiet) sent = subst (λ world. Contains world.requests frame) (sym change.rest) sent
-requests_stay m old outcome new frame (step.accept k n ksn code is up) sent = subst (λ world. Contains world.requests frame) (sym up.answered.rest) sent
-requests_stay m old outcome new frame (step.repeat k n ksn code is up) sent = subst (λ world. Contains world.requests frame) (sym up.answered.rest) sent
-requests_stay m old outcome new frame (step.refuse k n ksn reason is up) sent = subst (λ world. Contains world.requests frame) (sym up.answered.rest) sent
-requests_stay m old outcome new frame (step.done k t reported ksn code is at change) sent = subst (λ world. Contains world.requests frame) (sym change.rest) sent
-requests_stay m old outcome new frame (step.host touched rest quiet) sent = subst (λ world. Contains world.requests frame) (sym rest) sent
+requests_stay m old outcome new frame view sent = elim (step_leaves m old new outcome view).requests [
+  | inl same ↦ subst (λ list. Contains list frame) (sym same) sent
+  | inr more ↦ subst (λ list. Contains list frame) (sym more.1) (Contains-append_left old.requests (more.0 ∷ []) frame sent)
+]
 
 -- a used number stays used in a step
 pub used_stays : {C L I : Type 0} (m : Meanings C L I) (old : WorldOf C L I) (outcome : Outcome) (new : WorldOf C L I) (ksn : Serial)
@@ -258,7 +202,7 @@ first_safe : {C L I : Type 0} (m : Meanings C L I) (world : WorldOf C L I) → I
 first_safe m world first t ksn waits =
     let stands = at_contains world.terminals t waits.terminal waits.at in
     let stopped = (All-contains (IsNewTerminal m) world.terminals waits.terminal first.terminals stands).stopped in
-    absurd (stopped_waits waits.terminal.state waits.pending stopped waits.is_pending)
+    absurd (stopped_is_idle waits.terminal.state stopped waits.pending waits.is_pending)
 
 -- a step leaves no other number pending than such ones
 step_safe : {C L I : Type 0} (m : Meanings C L I) → BegunIsRequest m.cell → (old : WorldOf C L I) (outcome : Outcome) (new : WorldOf C L I)
@@ -266,7 +210,7 @@ step_safe : {C L I : Type 0} (m : Meanings C L I) → BegunIsRequest m.cell → 
 step_safe m request old outcome new safe view owned t ksn waits = elim (pending_comes m old outcome new t ksn view waits) [
   | inl before ↦
       let was = safe t ksn before in
-      (used_stays m old outcome new ksn view was.0, step_owners_stay m old new outcome view ksn.iksn t was.1)
+      (used_stays m old outcome new ksn view was.0, owner_stays old.owners new.owners (step_leaves m old new outcome view).owners ksn.iksn t was.1)
   | inr sends ↦
       let sent = sends_number m request old outcome new t ksn (step_reports m old outcome new view) sends in
       let stands : Contains new.requests sent.frame = subst (λ requests. Contains requests sent.frame) (sym sent.requests) (Contains-push old.requests sent.frame) in
@@ -314,5 +258,5 @@ done_is_over m old t ksn code new safe reports (u, waits) =
           let one = (safe t ksn (done_by_host m old t ksn code new reports).0).1 in
           let other = (safe u ksn elsewhere.1).1 in
           elsewhere.0 (one.alone u other.owns)
-      | inr here ↦ done_waits reports.1 ksn code acts.before acts.after here.1.pending acts.changed here.1.is_pending
+      | inr here ↦ done_is_idle reports.1 ksn code acts.before acts.after acts.changed here.1.pending here.1.is_pending
     ]

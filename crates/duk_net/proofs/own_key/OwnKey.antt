@@ -1,9 +1,7 @@
 -- The keys of the requests and the accepted replies that were sent, and why a host refuses a
 -- request.
-use Rattle.std.proofs.Common.{◌≡◌, ◌⊎◌, ℕ, List, Some, All, inl, inr, refl, sym, ap, subst, ◌∙◌, arith}
-use Rattle.std.specs.List.{Contains, slice_get}
-use Rattle.std.proofs.lemmas.List.Elements.{All-nil, All-push}
-use Rattle.std.proofs.lemmas.Option.{get_or_from_slice_get, slice_get_within}
+use Rattle.std.proofs.Common.{◌≡◌, ◌⊎◌, ℕ, List, All, inl, inr, refl, subst, arith}
+use Rattle.std.proofs.lemmas.List.Elements.{All-contains, All-nil, All-push}
 use Rattle.duk_frame.specs.Answer.{IsAnswer, IsRefusal, IsReply}
 use Rattle.duk_frame.specs.Payment.{request_of}
 use Rattle.duk_frame.specs.Request.{IsRequest}
@@ -13,17 +11,11 @@ use Rattle.duk_frame.specs.declared.code.Code.{Code}
 use Rattle.duk_frame.specs.declared.request.Request.{Request}
 use Rattle.duk_host.specs.Host.{basis_of}
 use Rattle.duk_host.specs.Judgement.{JudgementBasis, IsAuthentic, IsReplyWith, IsReasonAgainst, IsRefusedRequest, reason_number}
-use Rattle.duk_hsm.specs.Keys.{HsmKeys, key_set_of}
-use Rattle.duk_pin.specs.PinBlock.{IsPinBlock, pin_block}
-use Rattle.duk_regs.specs.Registers.{IsTaken, RegisterSet, AreFutureKeysOf}
-use Rattle.duk_tdes.specs.Key.{IsKey}
-use Rattle.duk_tdes.specs.Tdes.{tdes_decrypted, tdes_encrypted}
+use Rattle.duk_hsm.specs.Keys.{HsmKeys}
 use Rattle.duk_term.specs.Begin.{IsBegun}
 use Rattle.duk_term.specs.Terminal.{TerminalOf, serial_of}
 use Rattle.duk_term.specs.declared.purchase.Purchase.{Purchase}
-use Rattle.duk_tree.specs.Derivation.{node_key, pin_key_of, transaction_key_of}
-use Rattle.duk_tree.specs.Path.{IsUsable, path_of}
-use Rattle.duk_tree.specs.Serial.{IsSerial, Serial, iksn_prefix_of, prefix_of}
+use Rattle.duk_tree.specs.Serial.{Serial}
 use Rattle.duk_net.specs.OwnKey.{IsOwnKeyReply, IsOwnKeyRequest, IsRefusedAsUsedOrFull}
 use Rattle.duk_net.specs.Reached.{CallLeads, Moves, Reached}
 use Rattle.duk_net.specs.NoUsedKey.{IfLoaded, InEachTerminal, OwnsAboveUsed, AreRegistersAboveUsed}
@@ -31,7 +23,10 @@ use Rattle.duk_net.specs.Up.{UpRefused}
 use Rattle.duk_net.specs.World.{Frame, Meanings, WorldOf}
 use Rattle.duk_net.specs.declared.outcome.Outcome.{Outcome}
 use Rattle.duk_net.specs.declared.outcome.Outcome.TheVariants as came
-use Rattle.duk_net.proofs.used_once.AboveUsed.{BegunIsRequest}
+use Rattle.duk_stations.proofs.OwnKey.{BegunIsRequest, own_transaction_key, pin_found}
+use Rattle.duk_stations.specs.Keys.{KeyLaws as StationKeyLaws}
+use Rattle.duk_stations.proofs.PlacesInLists.{at_contains, before_at}
+use Rattle.duk_stations.proofs.Safe.{HasOwnKeys}
 use Rattle.duk_net.proofs.accepted_once.AcceptedOnce.{RepliesAreRead}
 use Rattle.duk_net.proofs.worlds.ReachedByMoves.{leads_all, reached_all}
 use Rattle.duk_net.proofs.accepted_once.RepeatsWereSent.{ExchangeLaws, WasSent, reached_gives, repeat_was_sent}
@@ -47,21 +42,8 @@ pub record KeyLaws {C L I : Type 0} (m : Meanings C L I) : Type 0 where
   pub replies : RepliesAreRead
   pub exchanges : ExchangeLaws
   pub request : BegunIsRequest m.cell
-  pub readable : (purchase : Purchase) (before after : TerminalOf C) (frame : List ℕ) → IsBegun m.cell purchase before after frame → IsPinBlock purchase.pin purchase.pan (pin_block purchase.pin purchase.pan)
-  pub taken : (initial : List ℕ) (old new : RegisterSet) (key : List ℕ) → IsUsable old.counter → IsTaken old key new → AreFutureKeysOf initial old → key ≡ transaction_key_of initial old.iksn old.counter
+  pub keys : StationKeyLaws m.cell
   pub refusals : (basis : JudgementBasis) (bytes frame : List ℕ) (refused : IsRefusedRequest basis bytes frame) → IsRefusal frame refused.request.ksn (reason_number refused.reason)
-  pub prefixes : (ksn : Serial) → IsSerial ksn → prefix_of ksn ≡ iksn_prefix_of ksn.iksn
-  pub node : (initial : List ℕ) (iksn : ℕ) (path : List ℕ) → IsKey 16 initial → IsKey 16 (node_key initial iksn path)
-  pub pin_key : (key : List ℕ) → IsKey 16 key → IsKey 16 (pin_key_of key)
-  pub deciphered : (key pin pan : List ℕ) → IsKey 16 key → IsPinBlock pin pan (pin_block pin pan) → tdes_decrypted key (tdes_encrypted key (pin_block pin pan)) ≡ pin_block pin pan
-
--- what holds of each thing of a list holds of the one at a place
-all_at : {A : Type 0} (P : A → Type 0) (things : List A) (place : ℕ) (thing : A) → All P things → slice_get things place ≡ Some thing → P thing
-all_at P things place thing all is = subst P (get_or_from_slice_get things place thing thing is) (all place thing (slice_get_within things place thing is))
-
--- and so what holds of each of them holds of any
-all_among : {A : Type 0} (P : A → Type 0) (things : List A) (thing : A) → All P things → Contains things thing → P thing
-all_among P things thing all (place, within, is) = subst P is (all place thing within)
 
 -- against an authentic request there is no reason but that its number is used or that the log is
 -- full
@@ -93,33 +75,16 @@ module _ {C L I : Type 0} (m : Meanings C L I) (laws : KeyLaws m) where
   -- transaction key of its number
   own_request : (keys : HsmKeys) (requests : List Frame) (purchase : Purchase) (before after : TerminalOf C) (frame : Frame) (begun : IsBegun m.cell purchase before after frame.items)
       → AreRegistersAboveUsed keys requests begun.set → IsOwnKeyRequest keys frame
-  own_request keys requests purchase before after frame begun future_keys =
-      let set = begun.set in
-      let key = begun.key in
-      let initial = future_keys.initial_is in
-      let takes = begun.takes.takes in
+  own_request keys requests purchase before after frame begun above =
       let is_request = laws.request purchase before after frame.items begun in
-      let readable = laws.readable purchase before after frame.items begun in
-      let taken = laws.taken future_keys.initial set begun.left key takes.usable takes.taken future_keys.future_keys in
-      let is_key : IsKey 16 key = subst (IsKey 16) (sym taken) (laws.node future_keys.initial set.iksn (path_of set.counter) initial.is_key) in
+      let own : HasOwnKeys keys begun.set = record { initial = above.initial; initial_is = above.initial_is; future_keys = above.future_keys } in
       record {
-        request = request_of key (serial_of set) purchase.pan purchase.pin purchase.amount;
+        request = request_of begun.key (serial_of begun.set) purchase.pan purchase.pin purchase.amount;
         pin = purchase.pin;
         is_request = is_request;
-        authentic = record {
-          key = key;
-          key_is = record {
-            bdk = initial.bdk;
-            held = ap (key_set_of keys) (laws.prefixes (serial_of set) is_request.fields.ksn_is) ∙ initial.held;
-            usable = takes.usable;
-            key_is = taken ∙ ap (λ root. transaction_key_of root set.iksn set.counter) initial.initial_is;
-          };
-          mac_is = refl;
-        };
+        authentic = record { key = begun.key; key_is = own_transaction_key m.cell laws.keys keys begun.set begun.left begun.key begun.takes.takes is_request.fields.ksn_is own; mac_is = refl };
         frame_is = begun.frame_is;
-        pin_is_found = subst (IsPinBlock purchase.pin purchase.pan)
-            (sym (laws.deciphered (pin_key_of key) purchase.pin purchase.pan (laws.pin_key key is_key) readable))
-            readable;
+        pin_is_found = pin_found m.cell laws.keys keys purchase before after frame.items begun own;
       }
 
   -- an accepted reply under the transaction key of its number has no other reading, and a refusal
@@ -132,7 +97,7 @@ module _ {C L I : Type 0} (m : Meanings C L I) (laws : KeyLaws m) where
       → (ksn : Serial) (code : Code) (mac : List ℕ) → IsReply bytes ksn code mac → IsReplyWith keys ksn code bytes
   own_again keys answers bytes all was =
       subst (λ bytes. (ksn : Serial) (code : Code) (mac : List ℕ) → IsReply bytes ksn code mac → IsReplyWith keys ksn code bytes) was.bytes_are
-      (all_among (IsOwnKeyReply keys) answers was.frame all was.sent)
+      (All-contains (IsOwnKeyReply keys) answers was.frame all was.sent)
 
   -- what a step sends is made under the transaction key of its number, and the host keeps its keys
   step_own : (old new : WorldOf C L I) (outcome : Outcome) → Reached m old → IsOwn old → View m old outcome new → IsOwn new
@@ -141,7 +106,7 @@ module _ {C L I : Type 0} (m : Meanings C L I) (laws : KeyLaws m) where
   step_own old new outcome reached own (shape.send t k purchase ksn is sent) =
       let acts = sent.terminal in
       let begun = acts.changed.begun in
-      let holds = laws.future_keys old reached t acts.before (record { place = acts.place; number_is = acts.number_is; thing_is = acts.was }) in
+      let holds = laws.future_keys old reached t acts.before (before_at t _ old.terminals new.terminals acts) in
       let future_keys = (subst (IfLoaded (OwnsAboveUsed old.host.keys old.requests old.owners t)) begun.takes.had holds.registers).above in
       rw sent.rest (All-push (IsOwnKeyRequest old.host.keys) old.requests sent.frame own.0 (own_request old.host.keys old.requests purchase acts.before acts.after sent.frame begun future_keys), own.1)
   step_own old new outcome reached own (shape.terminal t change quiet) = rw change.rest own
@@ -172,7 +137,7 @@ module _ {C L I : Type 0} (m : Meanings C L I) (laws : KeyLaws m) where
   -- a request that was sent is refused only because its number is used or the log is full
   request_refused : (old new : WorldOf C L I) (k n : ℕ) (ksn : Serial) (reason : ℕ) → Reached m old → UpRefused m old k n ksn reason new → IsRefusedAsUsedOrFull (came.Refused n ksn reason)
   request_refused old new k n ksn reason reached up =
-      let own = all_at (IsOwnKeyRequest old.host.keys) old.requests up.sent.place up.request (reached_own old reached).0 up.sent.thing_is in
+      let own = All-contains (IsOwnKeyRequest old.host.keys) old.requests up.request (reached_own old reached).0 (at_contains old.requests k up.request up.sent) in
       elim up.refused.refused [
         | inl malformed ↦ absurd (malformed.no_request own.request own.is_request)
         | inr refused ↦

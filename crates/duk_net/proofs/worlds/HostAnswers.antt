@@ -7,7 +7,8 @@ use Rattle.duk_host.specs.declared.answered.Verdict.{Verdict}
 use Rattle.duk_host.specs.declared.answered.Verdict.TheVariants.{Accepted, Refused, Repeated}
 use Rattle.duk_net.specs.Up.{IsAnswerSent, ReachesHost}
 use Rattle.duk_net.specs.inner.Up.{verdict_outcome}
-use Rattle.duk_net.specs.World.{Frame, IsAt, Meanings, WorldOf}
+use Rattle.duk_net.specs.World.{Frame, Meanings, WorldOf}
+use Rattle.duk_stations.specs.Places.{IsAt}
 
 -- bytes are the frame of at most one answer
 abbrev pub OneReading : Type 0

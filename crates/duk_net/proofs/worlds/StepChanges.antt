@@ -1,6 +1,5 @@
 -- What a move of a world changes.
-use Rattle.std.proofs.Common.{◌≡◌, ℕ, zero, suc, List, [], ◌∷◌, Some, inl, inr, refl, sym, ap, subst, ◌∙◌, arith}
-use Rattle.std.specs.List.{slice_get, slice_set}
+use Rattle.std.proofs.Common.{◌≡◌, ℕ, List, inl, inr, refl, sym, ap, subst, ◌∙◌, arith}
 use Rattle.duk_frame.specs.declared.code.Code.{Code}
 use Rattle.duk_host.specs.Handle.{HandleRefused}
 use Rattle.duk_host.specs.Host.{HostOf}
@@ -8,22 +7,23 @@ use Rattle.duk_host.specs.Restart.{IsHostRestarted, HostRestartRefused}
 use Rattle.duk_host.specs.declared.fault.HostFault.{HostFault}
 use Rattle.duk_host.specs.declared.fault.HostFault.TheVariants as host_fault
 use Rattle.duk_store.specs.Cell.{CellMeaning}
-use Rattle.duk_term.specs.Begin.{BeginRefused}
 use Rattle.duk_term.specs.Load.{Loading}
-use Rattle.duk_term.specs.Restart.{IsTerminalRestarted, TerminalRestartRefused}
 use Rattle.duk_term.specs.Terminal.{TerminalOf}
 use Rattle.duk_term.specs.declared.answer.Answer.TheVariants as answer
-use Rattle.duk_term.specs.declared.fault.TermFault.{TermFault}
 use Rattle.duk_term.specs.declared.purchase.Purchase.{Purchase}
 use Rattle.duk_tree.specs.Serial.{Serial}
-use Rattle.duk_net.specs.Arm.{ArmsCell, ArmsHost, ArmsLog, ArmsTerminal}
+use Rattle.duk_stations.specs.inner.Moves.{Goes, is_armed, reopens}
+use Rattle.duk_stations.proofs.PlacesInLists.{changes_as, goes_nowhere as list_goes_nowhere}
+use Rattle.duk_stations.proofs.Terminals.{begin_goes, restart_goes}
+use Rattle.duk_net.specs.Arm.{ArmsHost, ArmsLog, ArmsTerminal}
 use Rattle.duk_net.specs.Begin.{Begins, IsSent}
 use Rattle.duk_net.specs.Down.{ReportsAnswerOf, TakesAnswer}
 use Rattle.duk_net.specs.Load.{IsGiven, TakesLoad}
 use Rattle.duk_net.specs.Restart.{IsHostLeft, RestartsHost, TakesRestart}
 use Rattle.duk_net.specs.Step.{Step}
 use Rattle.duk_net.specs.Up.{UpAccepted, UpRefused, UpRepeated, ReachesHost}
-use Rattle.duk_net.specs.World.{ChangesOnly, Frame, IsAt, Meanings, ChangesTerminal, WorldOf}
+use Rattle.duk_net.specs.World.{Frame, Meanings, ChangesTerminal, WorldOf}
+use Rattle.duk_stations.specs.Places.{IsAt}
 use Rattle.duk_net.specs.declared.event.End.TheVariants as end
 use Rattle.duk_net.specs.declared.event.Event.{Event}
 use Rattle.duk_net.specs.declared.event.Event.TheVariants as event
@@ -39,13 +39,6 @@ IsQuiet (came.Refused k ksn reason) = ⊥
 IsQuiet (came.Done t ksn code) = ⊥
 IsQuiet _ = Unit {0}
 
--- what else may happen to a terminal: no request goes out, a restart, or arming
-pub data Touches {C L I : Type 0} (m : Meanings C L I) (before after : TerminalOf C) : Type 0 where
-  begin_refused : (why : TermFault) → BeginRefused m.cell before after why → Touches m before after
-  restarted : IsTerminalRestarted m.cell before after → Touches m before after
-  restart_refused : (why : TermFault) → TerminalRestartRefused m.cell before after why → Touches m before after
-  armed : (steps : ℕ) → ArmsCell m steps before after → Touches m before after
-
 -- what else may happen to the host: no answer, a restart, or arming
 pub data TouchesHost {C L I : Type 0} (m : Meanings C L I) (before after : HostOf L I) : Type 0 where
   no_answer : (bytes : List ℕ) (why : HostFault) → HandleRefused m.host bytes before after why → TouchesHost m before after
@@ -58,7 +51,7 @@ pub data View {C L I : Type 0} (m : Meanings C L I) (old : WorldOf C L I) (outco
   nothing : new ≡ old → IsQuiet outcome → View m old outcome new
   load : (t iksn : ℕ) → IsGiven m old t iksn outcome new → IsQuiet outcome → View m old outcome new
   send : (t k : ℕ) (purchase : Purchase) (ksn : Serial) → outcome ≡ came.Sent t k ksn → IsSent m old t purchase k ksn new → View m old outcome new
-  terminal : (t : ℕ) → ChangesTerminal t (Touches m) old new → IsQuiet outcome → View m old outcome new
+  terminal : (t : ℕ) → ChangesTerminal t (Goes m.cell) old new → IsQuiet outcome → View m old outcome new
   accept : (k n : ℕ) (ksn : Serial) (code : Code) → outcome ≡ came.Accepted n ksn code → UpAccepted m old k n ksn code new → View m old outcome new
   repeat : (k n : ℕ) (ksn : Serial) (code : Code) → outcome ≡ came.Repeated n ksn code → UpRepeated m old k n ksn code new → View m old outcome new
   refuse : (k n : ℕ) (ksn : Serial) (reason : ℕ) → outcome ≡ came.Refused n ksn reason → UpRefused m old k n ksn reason new → View m old outcome new
@@ -66,31 +59,13 @@ pub data View {C L I : Type 0} (m : Meanings C L I) (old : WorldOf C L I) (outco
       → ChangesTerminal t (ReportsAnswerOf frame ksn (answer.Done code)) old new → View m old outcome new
   host : TouchesHost m old.host new.host → new ≡ record old { host = new.host } → IsQuiet outcome → View m old outcome new
 
--- a terminal that goes on in one way goes on in another that follows
-acts_as : {C : Type 0} (t : ℕ) (P Q : TerminalOf C → TerminalOf C → Type 0) (old new : List (TerminalOf C)) → ((before after : TerminalOf C) → P before after → Q before after) → ChangesOnly t P old new → ChangesOnly t Q old new
-acts_as t P Q old new follows acts = record {
-  place = acts.place;
-  before = acts.before;
-  after = acts.after;
-  number_is = acts.number_is;
-  was = acts.was;
-  changed = follows acts.before acts.after acts.changed;
-  others = acts.others;
-}
-
--- a list in which an item is put where it stood is the same list
-put_back : {A : Type 0} (things : List A) (place : ℕ) (thing : A) → slice_get things place ≡ Some thing → slice_set things place thing ≡ things
-put_back [] place thing is = refl
-put_back (first ∷ things) zero thing is = grind (arith, is)
-put_back (first ∷ things) (suc place) thing is = ap (λ rest. first ∷ rest) (put_back things place thing is)
-
 -- where the terminal stays as it was, so does the world
-goes_nowhere : {C L I : Type 0} (t : ℕ) (P : TerminalOf C → TerminalOf C → Type 0) (old new : WorldOf C L I) → ChangesTerminal t P old new → ((before after : TerminalOf C) → P before after → after ≡ before) → new ≡ old
-goes_nowhere t P old new change stays =
-    let acts = change.terminal in
-    let same : new.terminals ≡ old.terminals =
-    acts.others ∙ ap (λ terminal. slice_set old.terminals acts.place terminal) (stays acts.before acts.after acts.changed) ∙ put_back old.terminals acts.place acts.before acts.was in
-    change.rest ∙ ap (λ terminals. record old { terminals = terminals }) same
+goes_nowhere : {C L I : Type 0} (t : ℕ) (P : TerminalOf C → TerminalOf C → Type 0) (old new : WorldOf C L I) (change : ChangesTerminal t P old new) → change.terminal.after ≡ change.terminal.before → new ≡ old
+goes_nowhere t P old new change same = change.rest ∙ ap (λ terminals. record old { terminals = terminals }) (list_goes_nowhere t P old.terminals new.terminals change.terminal same)
+
+-- a terminal goes on, and nothing else happens
+moves_on : {C L I : Type 0} (m : Meanings C L I) (t : ℕ) (P : TerminalOf C → TerminalOf C → Type 0) (outcome : Outcome) (old new : WorldOf C L I) (change : ChangesTerminal t P old new) → Goes m.cell change.terminal.before change.terminal.after → IsQuiet outcome → View m old outcome new
+moves_on m t P outcome old new change moves quiet = terminal t (record { terminal = changes_as t P old.terminals new.terminals change.terminal (Goes m.cell) (λ is. moves); rest = change.rest }) quiet
 
 quiet_as : (outcome other : Outcome) → outcome ≡ other → IsQuiet other → IsQuiet outcome
 quiet_as outcome other is quiet = subst IsQuiet (sym is) quiet
@@ -106,7 +81,7 @@ quiet_load meaning at asked _ before after takes = tt
 
 begin_view : {C L I : Type 0} (m : Meanings C L I) (old : WorldOf C L I) (t : ℕ) (purchase : Purchase) (outcome : Outcome) (new : WorldOf C L I) → Begins m old t purchase outcome new → View m old outcome new
 begin_view m old at purchase (came.Sent u k ksn) new begins = send at k purchase ksn (ap (λ n. came.Sent n k ksn) begins.0) begins.1
-begin_view m old at purchase (came.TermFaulted t why) new begins = terminal at (record { terminal = acts_as at _ (Touches m) old.terminals new.terminals (λ before after. begin_refused why) begins.1.terminal; rest = begins.1.rest }) tt
+begin_view m old at purchase (came.TermFaulted t why) new begins = let acts = begins.1.terminal in moves_on m at _ (came.TermFaulted t why) old new begins.1 (begin_goes m.cell acts.before acts.after why acts.changed) tt
 begin_view m old at purchase came.NoSuchTerminal new begins = nothing begins.1 tt
 begin_view m old at purchase _ new begins = absurd begins
 
@@ -120,15 +95,15 @@ up_view m old which _ new ups = absurd ups
 
 -- what a terminal makes of an answer changes it only where it is done
 down_view : {C L I : Type 0} (m : Meanings C L I) (old : WorldOf C L I) (k t : ℕ) (outcome : Outcome) (new : WorldOf C L I) (frame : Frame) → IsAt old.answers k frame → ChangesTerminal t (TakesAnswer t frame outcome) old new → View m old outcome new
-down_view m old which at (came.Done u ksn code) new frame sent change = done which at frame ksn code (ap (λ n. came.Done n ksn code) change.terminal.changed.0) sent (record { terminal = acts_as at _ (ReportsAnswerOf frame ksn (answer.Done code)) old.terminals new.terminals (λ before after takes. takes.1) change.terminal; rest = change.rest })
-down_view m old which at (came.GotRefusal t ksn reason) new frame sent change = nothing (goes_nowhere at _ old new change (λ before after takes. takes.1.after_is)) tt
-down_view m old which at (came.TermFaulted t why) new frame sent change = nothing (goes_nowhere at _ old new change (λ before after takes. takes.2)) tt
+down_view m old which at (came.Done u ksn code) new frame sent change = done which at frame ksn code (ap (λ n. came.Done n ksn code) change.terminal.changed.0) sent (record { terminal = changes_as at _ old.terminals new.terminals change.terminal (ReportsAnswerOf frame ksn (answer.Done code)) (λ takes. takes.1); rest = change.rest })
+down_view m old which at (came.GotRefusal t ksn reason) new frame sent change = nothing (goes_nowhere at _ old new change change.terminal.changed.1.after_is) tt
+down_view m old which at (came.TermFaulted t why) new frame sent change = nothing (goes_nowhere at _ old new change change.terminal.changed.2) tt
 down_view m old which at _ new frame sent change = absurd change.terminal.changed
 
-restart_term_touches : {C L I : Type 0} (m : Meanings C L I) (t : ℕ) (outcome : Outcome) (before after : TerminalOf C) → TakesRestart m.cell t outcome before after → IsQuiet outcome × Touches m before after
-restart_term_touches m at (came.TermNext t next) before after takes = (tt, restarted takes.1.restarted)
-restart_term_touches m at (came.TermFaulted t why) before after takes = (tt, restart_refused why takes.1)
-restart_term_touches m at _ before after takes = absurd takes
+restart_move : {C : Type 0} (cell : CellMeaning C) (t : ℕ) (outcome : Outcome) (before after : TerminalOf C) → TakesRestart cell t outcome before after → IsQuiet outcome × Goes cell before after
+restart_move cell at (came.TermNext t next) before after takes = (tt, reopens takes.1.restarted)
+restart_move cell at (came.TermFaulted t why) before after takes = (tt, restart_goes cell before after why takes.1)
+restart_move cell at _ before after takes = absurd takes
 
 restart_host_view : {C L I : Type 0} (m : Meanings C L I) (old : WorldOf C L I) (outcome : Outcome) (new : WorldOf C L I) → RestartsHost m old outcome new → View m old outcome new
 restart_host_view m old (came.HostUsed n) new restarts = host (host_restarted n restarts.host) restarts.rest tt
@@ -140,7 +115,7 @@ arm_host_view m old steps (came.Armed which passed) new arms = host (host_armed 
 arm_host_view m old steps _ new arms = absurd arms
 
 arm_term_view : {C L I : Type 0} (m : Meanings C L I) (old : WorldOf C L I) (t steps : ℕ) (outcome : Outcome) (new : WorldOf C L I) → ArmsTerminal m old t steps outcome new → View m old outcome new
-arm_term_view m old at steps (came.Armed which passed) new arms = terminal at (record { terminal = acts_as at _ (Touches m) old.terminals new.terminals (λ before after. armed steps) arms.2.terminal; rest = arms.2.rest }) tt
+arm_term_view m old at steps (came.Armed which passed) new arms = let is = arms.2.terminal.changed in moves_on m at _ (came.Armed which passed) old new arms.2 (is_armed is.stays is.state) tt
 arm_term_view m old at steps came.NoSuchTerminal new arms = nothing arms.1 tt
 arm_term_view m old at steps _ new arms = absurd arms
 
@@ -169,8 +144,8 @@ step_view m old (event.RestartTerm t) outcome new step = elim step [
   | inl none ↦ nothing none.same (quiet_as outcome _ none.outcome_is tt)
   | inr change ↦
       let acts = change.terminal in
-      let touched = restart_term_touches m t outcome acts.before acts.after acts.changed in
-      terminal t (record { terminal = acts_as t _ (Touches m) old.terminals new.terminals (λ before after takes. (restart_term_touches m t outcome before after takes).1) acts; rest = change.rest }) touched.0
+      let moves = restart_move m.cell t outcome acts.before acts.after acts.changed in
+      moves_on m t _ outcome old new change moves.1 moves.0
 ]
 step_view m old event.RestartHost outcome new step = restart_host_view m old outcome new step
 step_view m old (event.Arm end.Host steps) outcome new step = arm_host_view m old steps outcome new step

@@ -10,9 +10,9 @@ ghost use Rattle.duk_net.specs.World.{meanings_of};
 use crate::event::End;
 use crate::frames::outcome_of;
 use crate::outcome::Outcome;
-use crate::places::{place_of, push_within};
 use crate::system::System;
 use duk_host::{HostFault, Issuer};
+use duk_stations::{place_of, push_within};
 use duk_store::{Cell, UsedLog};
 use std::alloc::AllocError;
 

@@ -2,35 +2,10 @@ use Rattle.duk_books.specs.Books.{meanings_of}
 use Rattle.duk_books.proofs.calm_stores.CalmStores.{leads_calm, leads_sound}
 use Rattle.duk_books.proofs.calm_stores.KnownStores.{StoreLaws}
 use Rattle.duk_books.proofs.laws.calm_stores.Goals as goal
-use Rattle.duk_books.proofs.laws.calm_stores.Goals.{After-one_reply}
+use Rattle.duk_books.proofs.laws.calm_stores.Goals.{After-known}
 
-laws_of : (g : _) → After-one_reply g → StoreLaws (meanings_of g.C.Cell.meaning g.B.Cell.meaning g.J.Journal.meaning g.I.Issuer.decides)
-laws_of g c = record {
-  books = record {
-    calls = record {
-      registers = record { left = c.found_again.ensures.left; of_key = c.found_again.ensures.of_key };
-      numbers = record { fits = λ counter usable. (c.bits.ensures.usable counter usable).0; set = c.transactions.ensures.set };
-      reading = c.one_reading.ensures;
-    };
-    frames = record {
-      one_request = c.one_reading-2.ensures.request;
-      one_answer = c.one_reading-2.ensures.answer;
-      one_reversal = c.one_reading-3.ensures.reversal;
-      one_reply = c.one_reading-3.ensures.reply;
-      apart = λ bytes request reversal is. (c.apart_from_payments.ensures.requests bytes request is).0 reversal;
-    };
-    host = record {
-      new_numbers = c.new_numbers.ensures;
-      replies = c.one_reply.ensures.kept;
-      one_answer = c.one_reading-2.ensures.answer;
-      replied = c.payments.ensures.reply;
-    };
-    request = c.requests.ensures.request;
-    reversal = c.reversals.ensures;
-  };
-  images = c.no_used_key.ensures.no_used_key;
-  lasts = c.no_used_key.ensures.books_have_no_key;
-}
+laws_of : (g : _) → After-known g → StoreLaws (meanings_of g.C.Cell.meaning g.B.Cell.meaning g.J.Journal.meaning g.I.Issuer.decides)
+laws_of g c = record { books = c.known.ensures; images = c.no_used_key.ensures.no_used_key; lasts = c.no_used_key.ensures.books_have_no_key }
 
 pub returns-clause-sound : goal.returns-clause-sound
 returns-clause-sound g c old new outcomes reached sound leads = (leads_sound _ (laws_of g c) old new outcomes reached sound leads).0

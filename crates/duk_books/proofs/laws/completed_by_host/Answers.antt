@@ -1,40 +1,9 @@
-use Rattle.duk_books.specs.Books.{meanings_of}
 use Rattle.duk_books.proofs.accepted.EndsOnce.{completed_by_call}
 use Rattle.duk_books.proofs.accepted.KnownFromHost.{know_from_host}
-use Rattle.duk_books.proofs.agreement.BooksHold.{BookLaws}
 use Rattle.duk_books.proofs.laws.completed_by_host.Goals as goal
-use Rattle.duk_books.proofs.laws.completed_by_host.Goals.{After-one_reply}
-
-laws_of : (g : _) → After-one_reply g → BookLaws (meanings_of g.C.Cell.meaning g.B.Cell.meaning g.J.Journal.meaning g.I.Issuer.decides)
-laws_of g c = record {
-  calls = record {
-    registers = record { left = c.found_again.ensures.left; of_key = c.found_again.ensures.of_key };
-    numbers = record { fits = λ counter usable. (c.bits.ensures.usable counter usable).0; set = c.transactions.ensures.set };
-    reading = c.one_reading.ensures;
-  };
-  frames = record {
-    one_request = c.one_reading-2.ensures.request;
-    one_answer = c.one_reading-2.ensures.answer;
-    one_reversal = c.one_reading-3.ensures.reversal;
-    one_reply = c.one_reading-3.ensures.reply;
-    apart = λ bytes request reversal is. (c.apart_from_payments.ensures.requests bytes request is).0 reversal;
-  };
-  host = record {
-    new_numbers = c.new_numbers.ensures;
-    replies = c.one_reply.ensures.kept;
-    one_answer = c.one_reading-2.ensures.answer;
-    replied = c.payments.ensures.reply;
-  };
-  request = c.requests.ensures.request;
-  reversal = c.reversals.ensures;
-}
 
 pub returns-clause-completed_by_host : goal.returns-clause-completed_by_host
-returns-clause-completed_by_host g c = completed_by_call _ (laws_of g c) (record {
-  one_answer = c.one_reading-2.ensures.answer;
-  one_reply = c.one_reading-3.ensures.reply;
-  apart = λ bytes answer reply is. (c.apart_from_payments.ensures.answers bytes answer is).1 reply;
-})
+returns-clause-completed_by_host g c = completed_by_call _ c.known.ensures (let frames = c.known.ensures.frames in record { one_answer = frames.one_answer; one_reply = frames.one_reply; apart = frames.apart_answers })
 
 pub returns-clause-known_from_host : goal.returns-clause-known_from_host
-returns-clause-known_from_host g c books reached = know_from_host _ (laws_of g c) books reached
+returns-clause-known_from_host g c books reached = know_from_host _ c.known.ensures books reached

@@ -1,4 +1,4 @@
-use Rattle.duk_books.proofs.numbers.InitialKeys.{own_key}
+use Rattle.duk_stations.proofs.IssuedKeys.{own_key}
 use Rattle.duk_books.proofs.laws.own_initial_key.Goals as goal
 
 pub returns : goal.returns

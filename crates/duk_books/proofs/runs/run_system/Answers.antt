@@ -1,5 +1,5 @@
 use Rattle.std.proofs.Common.{◌+◌, refl, ap}
-use Rattle.duk_books.proofs.moves.PlacesInLists.{stands_at}
+use Rattle.duk_stations.proofs.PlacesInLists.{stands_at}
 use Rattle.duk_books.proofs.moves.RunsGoOn.{run_next, run_none}
 use Rattle.duk_books.proofs.runs.run_system.Goals as goal
 

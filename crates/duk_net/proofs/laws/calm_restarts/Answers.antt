@@ -1,21 +1,11 @@
 use Rattle.std.proofs.Common.{inl, refl}
 use Rattle.duk_net.proofs.calm_stores.CalmRestarts.{all_up}
-use Rattle.duk_net.proofs.used_once.AboveUsed.{WorldLaws}
+use Rattle.duk_net.proofs.used_once.WorldSafe.{WorldLaws}
 use Rattle.duk_net.proofs.laws.calm_restarts.Goals as goal
 use Rattle.duk_net.proofs.laws.calm_restarts.Goals.{After-replies}
 
 laws_of : (g : _) → After-replies g → WorldLaws g.C.Cell.meaning
-laws_of g c = record {
-  registers = record {
-    fits = c.bits.ensures.usable;
-    set = c.transactions.ensures.set;
-    future_keys = c.transactions.ensures.future_keys;
-    again = c.found_again.ensures.of_key;
-  };
-  reading = c.one_reading.ensures.request;
-  request = c.requests.ensures.request;
-  own_key = c.own_initial_key.ensures;
-}
+laws_of g c = record { registers = c.registers.ensures; reading = c.one_reading.ensures.request; request = c.requests.ensures.request; own_key = c.own_initial_key.ensures }
 
 pub returns-clause-brought_up : goal.returns-clause-brought_up
 returns-clause-brought_up g c old new events outcomes reached sound calm there run =

@@ -1,20 +1,10 @@
 use Rattle.duk_net.proofs.calm_stores.CalmStores.{leads_calm, leads_sound}
-use Rattle.duk_net.proofs.used_once.AboveUsed.{WorldLaws}
+use Rattle.duk_net.proofs.used_once.WorldSafe.{WorldLaws}
 use Rattle.duk_net.proofs.laws.calm_stores.Goals as goal
 use Rattle.duk_net.proofs.laws.calm_stores.Goals.{After-replies}
 
 laws_of : (g : _) → After-replies g → WorldLaws g.C.Cell.meaning
-laws_of g c = record {
-  registers = record {
-    fits = c.bits.ensures.usable;
-    set = c.transactions.ensures.set;
-    future_keys = c.transactions.ensures.future_keys;
-    again = c.found_again.ensures.of_key;
-  };
-  reading = c.one_reading.ensures.request;
-  request = c.requests.ensures.request;
-  own_key = c.own_initial_key.ensures;
-}
+laws_of g c = record { registers = c.registers.ensures; reading = c.one_reading.ensures.request; request = c.requests.ensures.request; own_key = c.own_initial_key.ensures }
 
 pub returns-clause-sound : goal.returns-clause-sound
 returns-clause-sound g c old new outcomes reached sound leads =

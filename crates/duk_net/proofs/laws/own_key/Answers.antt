@@ -1,11 +1,9 @@
-use Rattle.std.proofs.Common.{inl}
-use Rattle.duk_pin.specs.PinBlock.{pin_block}
 use Rattle.duk_net.specs.World.{meanings_of}
 use Rattle.duk_net.proofs.own_key.OwnKey.{KeyLaws, leads_refuses, reached_own}
 use Rattle.duk_net.proofs.laws.own_key.Goals as goal
-use Rattle.duk_net.proofs.laws.own_key.Goals.{After-inverse}
+use Rattle.duk_net.proofs.laws.own_key.Goals.{After-keys}
 
-laws_of : (g : _) → After-inverse g → KeyLaws (meanings_of g.C.Cell.meaning g.L.UsedLog.meaning g.I.Issuer.decides)
+laws_of : (g : _) → After-keys g → KeyLaws (meanings_of g.C.Cell.meaning g.L.UsedLog.meaning g.I.Issuer.decides)
 laws_of g c = record {
   future_keys = c.no_used_key.ensures.above_used;
   one_request = c.one_reading.ensures.request;
@@ -14,14 +12,7 @@ laws_of g c = record {
   replies = c.replies.ensures;
   exchanges = record { given = c.exchanges.ensures.given; others = c.exchanges.ensures.others };
   request = c.requests.ensures.request;
-  readable = c.requests.ensures.pin_block;
-  taken = c.transactions.ensures.key;
-  prefixes = c.prefixes.ensures;
-  node = c.keys.ensures.node;
-  pin_key = c.keys.ensures.pin;
-  deciphered = λ key pin pan is_key is.
-      let block = c.eight_bytes.ensures pin pan (pin_block pin pan) is in
-      c.inverse.ensures.deciphered key (pin_block pin pan) (record { length_is = inl is_key.size_is; bytes_fit = is_key.bytes_fit }) (record { eight = block.0; bytes_fit = block.1 });
+  keys = c.keys.ensures;
 }
 
 pub returns-clause-own_key_of_requests : goal.returns-clause-own_key_of_requests

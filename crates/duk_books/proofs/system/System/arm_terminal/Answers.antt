@@ -1,5 +1,5 @@
 use Rattle.std.proofs.Common.{refl, ◌∙◌}
-use Rattle.duk_books.proofs.moves.PlacesInLists.{changes_at}
+use Rattle.duk_stations.proofs.PlacesInLists.{changes_at}
 use Rattle.duk_books.proofs.system.System.arm_terminal.Goals as goal
 
 pub returns : goal.returns

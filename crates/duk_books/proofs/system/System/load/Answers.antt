@@ -2,9 +2,9 @@ use Rattle.std.proofs.Common.{◌≡◌, true, false, None, refl, inl, inr, sym,
 use Rattle.duk_hsm.specs.Commands.{IsIssued}
 use Rattle.duk_hsm.specs.Keys.{key_set_of}
 use Rattle.duk_tree.specs.Serial.{iksn_prefix_of}
-use Rattle.duk_books.specs.Owner.{IsElsewhere}
-use Rattle.duk_books.proofs.moves.IssuedKeys.{no_key_set}
-use Rattle.duk_books.proofs.moves.PlacesInLists.{changes_at, has_one}
+use Rattle.duk_stations.specs.Owner.{IsElsewhere}
+use Rattle.duk_stations.proofs.IssuedKeys.{no_key_set}
+use Rattle.duk_stations.proofs.PlacesInLists.{changes_at, has_one}
 use Rattle.duk_books.proofs.system.System.load.Goals as goal
 
 not_both : false ≡ true → ⊥

@@ -1,5 +1,5 @@
 use Rattle.std.proofs.Common.{◌+◌, length, refl, sym, ap, ◌∙◌}
-use Rattle.duk_books.proofs.moves.PlacesInLists.{changes_at}
+use Rattle.duk_stations.proofs.PlacesInLists.{changes_at}
 use Rattle.duk_books.proofs.system.System.reverse.Goals as goal
 
 pub returns-in-Ok-clause-outcome : goal.returns-in-Ok-clause-outcome

@@ -2,7 +2,7 @@ use Rattle.std.proofs.Common.{◌∷◌, [], inr, refl, subst, ◌∙◌}
 use Rattle.duk_journal_host.specs.Group.{GroupRefused}
 use Rattle.duk_journal_host.specs.Host.{host_meaning_of}
 use Rattle.duk_books.proofs.moves.HostAnswers.{answered_reaches, if_ok, on_err}
-use Rattle.duk_books.proofs.moves.PlacesInLists.{is_at}
+use Rattle.duk_stations.proofs.PlacesInLists.{is_at}
 use Rattle.duk_books.proofs.system.System.up.Goals as goal
 
 pub returns-in-Ok-clause-outcome : goal.returns-in-Ok-clause-outcome

@@ -1,5 +1,5 @@
 use Rattle.std.proofs.Common.{refl, inr, ◌∙◌}
-use Rattle.duk_net.proofs.worlds.PlacesInLists.{acts_at, is_at}
+use Rattle.duk_stations.proofs.PlacesInLists.{changes_at, is_at}
 use Rattle.duk_net.proofs.system.System.down.Goals as goal
 
 pub returns : goal.returns
@@ -10,7 +10,7 @@ returns g c =
       frame = c.index.result.now;
       sent = is_at answers.items c.args.k c.in-Some-place_of.sent c.len-2.result c.index.result.now c.in-Some-place_of.ensures.0 c.in-Some-place_of.ensures.1 (c.len-2.ensures ∙ answers.ok.0) c.index.ensures;
       change = record {
-        terminal = acts_at c.args.t c.in-Some.place c.len.result _ terminals.items c.index_mut.result.now _ c.in-Some.ensures.0 c.in-Some.ensures.1 (c.len.ensures ∙ terminals.ok.0) c.index_mut.ensures.value c.reply.ensures;
+        terminal = changes_at c.args.t c.in-Some.place c.len.result _ terminals.items c.index_mut.result.now _ c.in-Some.ensures.0 c.in-Some.ensures.1 (c.len.ensures ∙ terminals.ok.0) c.index_mut.ensures.value c.reply.ensures;
         rest = refl;
       };
     })))

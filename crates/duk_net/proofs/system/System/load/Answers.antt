@@ -2,9 +2,9 @@ use Rattle.std.proofs.Common.{◌≡◌, true, false, None, refl, inl, inr, sym,
 use Rattle.duk_hsm.specs.Commands.{IsIssued}
 use Rattle.duk_hsm.specs.Keys.{key_set_of}
 use Rattle.duk_tree.specs.Serial.{iksn_prefix_of}
-use Rattle.duk_net.specs.Owner.{IsElsewhere}
-use Rattle.duk_net.proofs.own_key.IssuedForTerminal.{no_key_set}
-use Rattle.duk_net.proofs.worlds.PlacesInLists.{acts_at, has_one}
+use Rattle.duk_stations.specs.Owner.{IsElsewhere}
+use Rattle.duk_stations.proofs.IssuedKeys.{no_key_set}
+use Rattle.duk_stations.proofs.PlacesInLists.{changes_at, has_one}
 use Rattle.duk_net.proofs.system.System.load.Goals as goal
 
 not_both : false ≡ true → ⊥
@@ -50,7 +50,7 @@ returns-clause-outcome g c =
         issued = issued;
         asked_is = refl;
       };
-      terminal = acts_at c.args.t c.in-Some.place c.len.result _ terminals.items c.index_mut-terminal.result.now _ c.in-Some.ensures.0 c.in-Some.ensures.1 (c.len.ensures ∙ terminals.ok.0) c.index_mut-terminal.ensures.value c.load-outcome.ensures;
+      terminal = changes_at c.args.t c.in-Some.place c.len.result _ terminals.items c.index_mut-terminal.result.now _ c.in-Some.ensures.0 c.in-Some.ensures.1 (c.len.ensures ∙ terminals.ok.0) c.index_mut-terminal.ensures.value c.load-outcome.ensures;
       owners = rw c.reserve.ensures.items at c.record_owner.ensures;
       rest = refl;
     }))))

@@ -2,7 +2,7 @@ use Rattle.std.proofs.Common.{◌+◌, length, refl, ap, subst, ◌∙◌}
 use Rattle.duk_host.specs.Handle.{AcceptFailed, AnswersAs, HandleRefused}
 use Rattle.duk_host.specs.Host.{host_meaning_of}
 use Rattle.duk_host.specs.declared.fault.HostFault.TheVariants.{NoMemory}
-use Rattle.duk_net.proofs.worlds.PlacesInLists.{is_at}
+use Rattle.duk_stations.proofs.PlacesInLists.{is_at}
 use Rattle.duk_net.proofs.worlds.HostAnswers.{if_ok, on_err, up_answered}
 use Rattle.duk_net.proofs.system.System.up.Goals as goal
 

@@ -1,0 +1,11 @@
+pub mod PlacesInLists
+pub mod Owners
+pub mod Terminals
+pub mod Memory
+pub mod Numbers
+pub mod Safe
+pub mod NoUsedKey
+pub mod OwnKey
+pub mod IssuedKeys
+pub mod StoreFaults
+pub mod Calm
