@@ -72,7 +72,8 @@ class Connection(asyncio.Protocol, Source):
 
     def connection_lost(self, exc: Optional[Exception]) -> None:
         self.is_gone = self.is_ending = True
-        self.why = self.why or "client"
+        # Over TLS a line that ends without a word is no end of its side.
+        self.why = self.why or ("cut frame" if self.cutter.rest else "client")
         self.keeper.closed(self)
 
     # To the client

@@ -136,7 +136,11 @@ class Door:
                 transport.abort()
         except OSError as why:
             self.refuse(taken, it.peer, "no TLS" if self.context else "gone")
-            self.log.clients.tell(f"{it.peer}: {getattr(why, 'reason', None) or why}")
+            self.log.clients.tell(f"{it.peer}: {getattr(why, 'reason', None) or told(why)}")
+
+
+def told(why: OSError) -> str:
+    return str(why) or type(why).__name__
 
 
 def prepare(it: socket.socket, unread: int) -> None:
