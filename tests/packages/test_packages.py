@@ -50,6 +50,7 @@ FILES = {
 644 usr/share/doc/dukpt/docs/pictures/power_failure.svg docs/pictures/power_failure.svg
 644 usr/share/doc/dukpt/docs/pictures/reversal.svg docs/pictures/reversal.svg
 644 usr/share/doc/dukpt/examples/haproxy.cfg share/deploy/haproxy.cfg
+644 usr/share/doc/dukpt/examples/prometheus-rules.yml share/deploy/prometheus-rules.yml
 """,
     "dukpt-host": """
 755 usr/bin/dukpt-host share/host/dukpt-host

@@ -73,7 +73,8 @@ def service_files(sources: Sources) -> Iterator[Item]:
 
 def examples(sources: Sources) -> Iterator[Item]:
     folder = "usr/share/doc/dukpt/examples"
-    yield Item(f"{folder}/haproxy.cfg", sources.share("deploy", "haproxy.cfg"))
+    for name in ("haproxy.cfg", "prometheus-rules.yml"):
+        yield Item(f"{folder}/{name}", sources.share("deploy", name))
     for path in sources.below("examples"):
         yield Item(f"{folder}/{path.name}", read(path))
 
