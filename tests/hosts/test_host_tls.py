@@ -60,6 +60,23 @@ class Tls(HostCase):
         at_once([lambda place=place: talk(place) for place in range(4)])
         self.assertEqual(host.stop(), 0)
 
+    def test_line_that_breaks(self) -> None:
+        """One that breaks within a frame cuts that off, though nothing has told the end of its side. One
+        that breaks behind a frame is a client that goes."""
+        host, given = self.start_host(*TLS), payments(1)[0]
+        context = client_context(self.home, "right")
+        for sent in (given.frame, given.frame[:9]):
+            client = self.connect(host, context)
+            client.send(sent)
+            if sent == given.frame:
+                self.assertEqual(client.take_answers(1), [given.answer])
+            client.close()
+        host.told("closed: its input ends in a frame")
+        closed = {why: host.metrics()[f'dukpt_connections_closed_totalwhy="{why}"']
+                  for why in ("client", "cut frame")}
+        self.assertEqual(closed, {"client": 1, "cut frame": 1})
+        self.assertEqual(host.stop(), 0)
+
     def test_what_is_not_started(self) -> None:
         """An address that other machines reach wants TLS, or a word that it does not."""
         anywhere = "0.0.0.0:0"
