@@ -75,6 +75,15 @@ class Statement(Case):
                 self.cluster.sql("set lock_timeout = '50ms'", same)
         self.assertEqual(self.cluster.sql(same), "{0}")
 
+    def test_times(self) -> None:
+        """A row says when it was kept, and when its number was reversed: as the reversal was kept."""
+        paid, own = (number_of(8, it) for it in (1, 2))
+        for it in (Asked(paid, MACS[0], 5), Asked(own, MACS[0], reversed=paid)):
+            self.cluster.sql(call_of([it]))
+        self.assertEqual(self.cluster.sql(
+            "select paid.kept_at < own.kept_at, paid.reversed_at = own.kept_at from dukpt.number as paid"
+            " join dukpt.number as own on own.ksn = paid.reversed_by"), "t|t")
+
     def test_planted(self) -> None:
         """Each of these differences is found."""
         for plant in PLANTS:

@@ -1,5 +1,6 @@
 """A host over a database that is not as it is to be: it says nothing any more, its role is set to another
-isolation, or a standby of it is a spare one."""
+isolation, or a standby of it is a spare one or of a quorum,
+or another place has no book."""
 from __future__ import annotations
 
 import os
@@ -7,7 +8,7 @@ import signal
 import subprocess
 import time
 from contextlib import ExitStack, contextmanager
-from typing import Iterator
+from typing import Iterator, NamedTuple
 
 from ..support.book.cluster import IDLE, USER, binaries
 from ..support.book.groups import call_of
@@ -22,6 +23,12 @@ from .test_host_book import BLOCKED
 SETTLES, WATCHES = "query like '%settle%'", "query not like '%settle%'"
 PLAIN = "serving, not replicated"
 STATE_OF = "select sync_state from pg_stat_replication where state = 'streaming' and application_name = '{}'"
+
+
+class Place(NamedTuple):
+    """Where a host looks for a database."""
+
+    dsn: str
 
 
 class Amiss(BookCase):
@@ -104,3 +111,21 @@ class Amiss(BookCase):
             host.told("serving, with 1 synchronous standbys")
             self.assertEqual(self.connect(host).ask(given.frame), given.answer)
             self.assertEqual(host.metrics()["dukpt_book_standbys"], 1)
+
+    def test_quorum(self) -> None:
+        """Each standby of a quorum counts."""
+        self.primary.set("synchronous_standby_names", "ANY 1 (near, other)")
+        with ExitStack() as both:
+            for name in ("near", "other"):
+                both.enter_context(self.receiver(name))
+                self.primary.wait_for(STATE_OF.format(name), "quorum")
+            host, given = self.start_host(places=[self.primary]), payments(1)[0]
+            host.told("serving, with 2 synchronous standbys")
+            self.assertEqual(self.connect(host).ask(given.frame), given.answer)
+
+    def test_wrong_place(self) -> None:
+        """A primary that cannot be served over stands in the way of no other one."""
+        wrong = Place(self.primary.dsn.replace("/dukpt?", "/postgres?"))
+        host, given = self.start_host("--not-replicated", places=[wrong, self.primary]), payments(1)[0]
+        self.wait_for_health(host, 200, PLAIN)
+        self.assertEqual(self.connect(host).ask(given.frame), given.answer)

@@ -16,6 +16,7 @@ from typing import Iterator, Sequence
 
 from ..service.test_unit import CALL, NAMESPACE, WRITTEN_AND_RUN, filtered
 from ..support.book.hosts import library
+from ..support.case import Case
 from ..support.program import ROOT, Program
 from ..support.service.client import PAN, PIN, payments, refused_requests
 from ..support.service.host import HERE, HOST, SECONDS, TEST_KEYS, HostCase, children_of
@@ -24,6 +25,7 @@ from ..support.service.journal_case import stream_of
 
 sys.path.insert(0, str(HOST.parent))
 from dukpt_host.below import Below  # noqa: E402
+from dukpt_host.waiting import Source, Waiting  # noqa: E402
 
 PACKAGE = HOST.parent / "dukpt_host"
 UNIT = ROOT / "share/deploy/dukpt-host.service"
@@ -305,6 +307,32 @@ class Beside(HostCase):
         said = "\n".join(host.lines)
         for secret in (PAN, PAN.encode().hex(), PIN + "\n", given[0].frame.hex().upper()[30:]):
             self.assertNotIn(secret, said)
+
+
+class Flood(Source):
+    """A source that may be kept from reading."""
+
+    is_read = True
+
+    def pause(self) -> None:
+        self.is_read = False
+
+    def resume(self) -> None:
+        self.is_read = True
+
+
+class Waits(Case):
+    def test_limits(self) -> None:
+        """Of a source no more is read beyond the bytes of one, nor beyond those of all, until they are
+        decided."""
+        for sizes, read in (((70, 70), [True, True]), ((30, 101), [True, False]),
+                            ((70, 70, 20), [True, True, False])):
+            waiting, sources = Waiting(most_of_one=100, most=150), [Flood() for _ in sizes]
+            for source, size in zip(sources, sizes):
+                waiting.add(source, [bytes(size)], 0)
+            self.assertEqual([it.is_read for it in sources], read)
+            waiting.group()
+            self.assertTrue(all(it.is_read for it in sources))
 
 
 def refusals_told(lines: Sequence[str]) -> int:

@@ -46,6 +46,13 @@ class Tls(HostCase):
         self.assertEqual(host.metrics()['dukpt_connections_refused_totalwhy="no TLS"'], 4)
         self.assertEqual(host.stop(), 0)
 
+    def test_too_many(self) -> None:
+        """One that has not shown its certificate yet counts as any other."""
+        host = self.start_host(*TLS, "--connections", "2")
+        for _ in range(3):
+            self.connect(host)
+        host.told("not let in: too many")
+
     def test_many(self) -> None:
         """Answers in their order, to several at once."""
         host, given = self.start_host(*TLS), payments(160)
