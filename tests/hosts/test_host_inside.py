@@ -43,6 +43,11 @@ class Inside(Case):
         """A host goes on behind connections that end at once. It closes its module when it ends."""
         self.assertEqual(self.found("lanes"), ["opened 3, closed 1"])
 
+    def test_watched(self) -> None:
+        """A fault of the watch that nobody foresaw has nothing served, until the database is seen again."""
+        self.assertEqual(self.found("watched"), [
+            "serving; the database does not answer: 'unforeseen'; serving"])
+
     def test_wiped(self) -> None:
         """Lines, digits and local master key of components keep no byte, whether or not a start succeeds;
         nor does the text for the process below, behind that. Modules that nobody needs are closed."""

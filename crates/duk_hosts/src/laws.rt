@@ -150,10 +150,10 @@ pub fn settled_again()
         → added_by again.settled ≡ [] }
 {}
 
-/// Whatever happened, any host may judge any frame now; what any host ever judged may be settled now, in
-/// groups of any size; and what was ever settled may be answered now, again too. So no host waits for
-/// another, or has to know that one stopped. And a book settles each candidate in some way, whatever it
-/// keeps: `MemBook` does it.
+/// Whatever happened, any host may judge a frame now, as its keys refuse it or find it a candidate; what any
+/// host ever judged may be settled now, in groups of any size; and what was ever settled may be answered
+/// now, again too. So no host waits for another, or has to know that one stopped. And a book settles each
+/// candidate in some way, whatever it keeps: `MemBook` does it.
 pub fn goes_on()
     ensures refused { (hosts : Hosts) (book : Book) (events : List Event) (ask : Ask)
         → (answer : List ℕ) → IsHistory hosts book events

@@ -169,6 +169,37 @@ async def lanes() -> str:
     return f"opened {len(opened)}, closed {module.closed}"
 
 
+# A watch that meets a fault that nobody foresaw
+
+
+async def watched() -> str:
+    """What a host says of itself while its watch meets one, and behind that."""
+    with_all: Any = exchange()
+    it = book.BookService(Database((), True, 1), Module.__new__(Module), with_all, with_all.metrics, with_all.log)
+    looks, seen, turns = [True, False, True], list[str](), asyncio.Semaphore(0)
+
+    async def open_ready(*_: object) -> Ended:
+        return Ended()
+
+    async def standbys(*_: object) -> int:
+        await turns.acquire()
+        if not looks.pop(0):
+            raise KeyError("unforeseen")
+        return 1
+
+    setattr(book, "open_ready", open_ready)
+    setattr(book, "standbys", standbys)
+    setattr(book, "EVERY", 0.0)
+    watch = asyncio.create_task(it.watch())
+    while looks:
+        it.settled.clear()
+        turns.release()
+        await asyncio.wait_for(it.settled.wait(), SECONDS)
+        seen.append(it.wrong or it.right)
+    watch.cancel()
+    return "; ".join(seen)
+
+
 # What has keys
 
 
@@ -223,7 +254,8 @@ def wiped() -> Iterator[str]:
 
 
 WHAT: dict[str, Callable[[], Iterator[str]]] = {
-    "entering": entering, "lanes": lambda: iter([asyncio.run(lanes())]), "wiped": wiped}
+    "entering": entering, "lanes": lambda: iter([asyncio.run(lanes())]), "wiped": wiped,
+    "watched": lambda: iter([asyncio.run(watched())])}
 
 
 def main(words: Sequence[str]) -> None:

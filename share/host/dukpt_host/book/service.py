@@ -73,6 +73,9 @@ class BookService:
                 await self.look()
             except NotServed as why:
                 self.close(str(why))
+            except Exception as why:
+                # A host that does not see the database any more has to stop serving over it.
+                self.close(f"the database does not answer: {told(why)}")
             else:
                 self.open()
             self.settled.set()
@@ -84,7 +87,7 @@ class BookService:
             self.watching = await open_ready(self.database.places, self.database.is_replicated)
         try:
             self.counts.standbys = await standbys(self.watching, self.database.is_replicated)
-        except NotServed:
+        except Exception:
             self.watching.terminate()
             self.watching = None
             raise
