@@ -17,7 +17,7 @@ use std::fmt;
 use std::fs::{self, File, OpenOptions};
 use std::io::{self, ErrorKind, Read, Write};
 use std::os::unix::fs::{MetadataExt, OpenOptionsExt};
-use std::os::unix::io::AsRawFd;
+use std::os::unix::io::{AsFd, AsRawFd};
 use std::path::{Path, PathBuf};
 use std::process::ExitCode;
 
@@ -238,10 +238,10 @@ fn ask(frame: &[u8]) -> Outcome<Vec<u8>> {
         .map_err(|_| "no reply".into())
 }
 
+/// Sends a frame at once: Rust's own output would part it at a byte that ends a line.
 fn send(frame: &[u8]) -> Outcome<()> {
-    let mut output = io::stdout();
-    output.write_all(frame)?;
-    Ok(output.flush()?)
+    let mut output = File::from(io::stdout().as_fd().try_clone_to_owned()?);
+    Ok(output.write_all(frame)?)
 }
 
 fn receive() -> Outcome<Vec<u8>> {
