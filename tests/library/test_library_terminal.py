@@ -61,8 +61,11 @@ def steps_in(trace: str, home: str) -> list[str]:
     for call, words in CALL.findall(trace):
         paths = [os.path.relpath(os.path.join(home, path), home)
                  for path in re.findall(r'<([^>]*)>|"([^"]*)"', words) for path in path if path]
-        if call == "write" and words[:2] in ("1<", "2<"):
-            found.append("frame" if words[0] == "1" else "line")
+        if call == "write" and words.startswith("2<"):
+            found.append("line")
+        elif call == "write" and paths[0].startswith("pipe:"):
+            # Its output, perhaps under another number.
+            found.append("frame")
         elif call.startswith("rename"):
             found.append(f"rename {paths[-2]} to {paths[-1]}")
         else:
