@@ -1,13 +1,16 @@
 """`dukpt-host` behind TLS: only clients whose certificate its authority signed are answered."""
 from __future__ import annotations
 
+import signal
 import ssl
 import subprocess
+import time
 from typing import Optional
 
 from ..support.service.certificates import client_context, make_authority, make_certificate
 from ..support.service.client import payments
-from ..support.service.host import HERE, HOST, ON_JOURNAL, SECONDS, TEST_KEYS, HostCase, at_once
+from ..support.service.host import (
+    HERE, HOST, ON_JOURNAL, SECONDS, TEST_KEYS, HostCase, Running, at_once, command_of)
 from ..support.service.journal_case import stream_of
 
 TLS = ("--tls", "host.pem", "host.key", "ours.pem")
@@ -83,6 +86,40 @@ class Tls(HostCase):
                   for why in ("client", "cut frame")}
         self.assertEqual(closed, {"client": 1, "cut frame": 1})
         self.assertEqual(host.stop(), 0)
+
+    def test_closed_first(self) -> None:
+        """Of a client that goes once the host has closed, no more is told than why that was."""
+        host = self.start_host(*TLS)
+        client = self.connect(host, client_context(self.home, "right"))
+        client.send(bytes([255, 255]))
+        self.assertEqual(client.take_all(), b"")
+        client.close()
+        host.told("closed: bytes that are no frame")
+        self.assertEqual(host.stop(), 0)
+        self.assert_own_lines(host)
+
+    def test_client_that_does_not_go(self) -> None:
+        """One that leaves the host's end without an answer is cut off in time. A host that has no processor
+        just then finds all limits of time over at once, and ends in order too."""
+        host, given = self.start_host(*TLS, "--closing", "2"), payments(1)[0]
+        client = self.connect(host, client_context(self.home, "right"))
+        self.assertEqual(client.ask(given.frame), given.answer)
+        below = host.below()
+        host.process.send_signal(signal.SIGTERM)
+        until = time.monotonic() + SECONDS
+        while command_of(below) and time.monotonic() < until:
+            time.sleep(0.01)
+        # By then it waits for its client alone.
+        time.sleep(0.3)
+        host.process.send_signal(signal.SIGSTOP)
+        time.sleep(2.5)
+        host.process.send_signal(signal.SIGCONT)
+        self.assertEqual(host.end(), 0)
+        self.assert_own_lines(host)
+
+    def assert_own_lines(self, host: Running) -> None:
+        """That nothing but the host told anything, as Python does of a fault that nobody foresaw."""
+        self.assertEqual([it for it in host.lines if not it.startswith("dukpt-host: ")], [])
 
     def test_what_is_not_started(self) -> None:
         """An address that other machines reach wants TLS, or a word that it does not."""

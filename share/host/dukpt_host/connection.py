@@ -88,13 +88,13 @@ class Connection(asyncio.Protocol, Source):
         if self.transport.get_write_buffer_size() > self.keeper.unread:
             self.cut_off("slow reader")
         elif self.is_ending and not self.unanswered:
-            self.transport.close()
+            self.close()
 
     def lost(self, why: str) -> None:
         """Frames get no answer, so no later one may: the client would take it for theirs."""
         self.end(why)
         self.unanswered = 0
-        self.transport.close()
+        self.close()
 
     # Its end
 
@@ -105,6 +105,12 @@ class Connection(asyncio.Protocol, Source):
             self.moved = monotonic()
             self.transport.pause_reading()
         if not self.unanswered:
+            self.close()
+
+    def close(self) -> None:
+        """Closes it behind what was written, and only once. In the loop of Python, what is closed
+        twice over TLS can neither be aborted nor asked anything any more."""
+        if not self.transport.is_closing():
             self.transport.close()
 
     def cut_off(self, why: str) -> None:
