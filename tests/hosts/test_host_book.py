@@ -204,7 +204,7 @@ class Book(BookCase):
             said = self.primary.run("psql", self.primary.dsn, "-c", change, check=False)
             self.assertIn("permission denied for table", said, change)
         for change, back, text in (
-                ("revoke pg_read_all_stats from host", "grant pg_read_all_stats to host",
+                ("revoke pg_read_all_stats from dukpt_host", "grant pg_read_all_stats to dukpt_host",
                  "the role does not see the standbys: grant pg_read_all_stats to it"),
                 ("alter schema dukpt rename to other", "alter schema other rename to dukpt",
                  "the database has no book of this form: schema.sql makes it")):
@@ -212,7 +212,7 @@ class Book(BookCase):
             self.wait_for_health(host, 503, text)
             self.primary.sql(back)
             self.wait_for_health(host, 200, "serving")
-        self.primary.sql("revoke dukpt_host from host")
+        self.primary.sql("grant pg_read_all_stats to host", "revoke dukpt_host from host")
         new = self.start_host()
         new.told("nothing is served: the book cannot be used: permission denied for schema dukpt")
         self.primary.sql("grant dukpt_host to host")
@@ -297,7 +297,7 @@ class Book(BookCase):
         with self.primary.session() as other:
             other.tell("begin; lock table dukpt.number in access exclusive mode;")
             self.primary.wait_for(LOCKED, "1")
-            self.assertEqual(host.health(), (503, "the database settles nothing within 2 s\n"))
+            self.assertEqual(host.health(), (503, "the database does not settle a group within 2 s\n"))
             other.tell("rollback;")
         self.wait_for_health(host, 200, right)
 

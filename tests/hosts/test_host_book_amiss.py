@@ -1,6 +1,6 @@
 """A host over a database that is not as it is to be: it says nothing any more, its role is set to another
-isolation, or a standby of it is a spare one or of a quorum,
-or another place has no book."""
+isolation, or a standby of it is a spare one or of a quorum, or another place has no book, or it wants a
+password."""
 from __future__ import annotations
 
 import os
@@ -10,12 +10,13 @@ import time
 from contextlib import ExitStack, contextmanager
 from typing import Iterator, NamedTuple
 
-from ..support.book.cluster import IDLE, USER, binaries
+from ..support.book.cluster import HOST_USER, IDLE, USER, binaries
 from ..support.book.groups import call_of
 from ..support.book.hosts import BookCase
 from ..support.models.model_book import Asked
 from ..support.service.client import payments
-from ..support.service.host import SECONDS
+from ..support.service.host import HOST, SECONDS
+from ..support.service.host_keys import of_process
 from ..support.service.reversals import counter_in, reversals_of
 from .test_host_book import BLOCKED
 
@@ -59,6 +60,16 @@ class Amiss(BookCase):
             self.assertEqual(list(answers.values()), [it.answer for it in given])
             self.assertEqual(host.metrics()["dukpt_book_groups_lost_total"], 1)
             self.wait_for_health(host, 200, PLAIN)
+
+    def test_health_beside_a_silent_lane(self) -> None:
+        """A group that is not settled in time is told, though another connection settles what comes then."""
+        host, given = self.start_host("--not-replicated"), payments(4)
+        self.assertEqual(self.connect(host).ask(given[0].frame), given[0].answer)
+        with self.silent(f"{SETTLES} limit 1"):
+            for it in given[1:]:
+                self.connect(host).send(it.frame)
+            self.wait_for_health(host, 503, "the database does not settle a group within 2 s")
+        self.wait_for_health(host, 200, PLAIN)
 
     def test_told_to_end_beside_a_silent_watch(self) -> None:
         """It ends in order, and does not wait for a word of the database."""
@@ -129,3 +140,44 @@ class Amiss(BookCase):
         host, given = self.start_host("--not-replicated", places=[wrong, self.primary]), payments(1)[0]
         self.wait_for_health(host, 200, PLAIN)
         self.assertEqual(self.connect(host).ask(given.frame), given.answer)
+
+    def test_password(self) -> None:
+        """The file of the password is read whenever the host connects. What is wrong with it is told, and
+        neither argument, variable nor line shows it."""
+        password, file = self.chance.randbytes(12).hex(), self.home / "password"
+        self.primary.sql(f"alter role {HOST_USER} password '{password}'")
+        rules = self.primary.data / "pg_hba.conf"
+        rules.write_text(f"local all {HOST_USER} scram-sha-256\nlocal all all trust\n")
+        self.primary.sql("select pg_reload_conf()")
+        host = self.start_host("--not-replicated", "--password", file.name, places=[self.primary])
+        self.wait_for_health(host, 503, "the file of the password cannot be read")
+        for text in ("", "\n", f"{password}\n{password}\n"):
+            file.write_text(text)
+            self.wait_for_health(host, 503, "the file of the password does not have one line")
+        file.write_text(password[1:])
+        self.wait_for_health(host, 503, "no primary: password authentication failed for user"
+                                        f' "{HOST_USER}"')
+        file.write_text(f"{password}\n")
+        self.wait_for_health(host, 200, PLAIN)
+        given = payments(1)[0]
+        self.assertEqual(self.connect(host).ask(given.frame), given.answer)
+        said = "\n".join(host.lines).encode()
+        self.assertNotIn(password[1:].encode(), said + of_process(host.process.pid))
+
+    def test_addresses(self) -> None:
+        """One with a password is refused, and of one that cannot be read nothing is told: it may have a
+        password in the wrong place."""
+        for dsn, status, line in (
+                ("postgresql://host:{}@db1/dukpt", 2, "it has a password, which everybody sees"),
+                ("postgresql://db1/dukpt?password={}", 2, "it has a password, which everybody sees"),
+                ("postgresql://[host:{}/dukpt", 2, "it is to be as in: postgresql://USER@HOST/NAME")):
+            secret = self.chance.randbytes(6).hex()
+            done = subprocess.run([HOST, "bank.toml", "--postgres", dsn.format(secret)], cwd=self.home,
+                                  text=True, capture_output=True, timeout=SECONDS, check=False,
+                                  env={**os.environ, **self.environment})
+            self.assertEqual(done.returncode, status, done.stderr)
+            self.assertIn(line, done.stderr)
+            self.assertNotIn(secret, done.stderr)
+        host = self.start_host("--not-replicated", places=[Place("postgresql://host:Se/cret@127.0.0.1/dukpt")])
+        self.wait_for_health(host, 503, "an address of --postgres cannot be read")
+        self.assertNotIn("Se", "".join(host.lines))

@@ -89,6 +89,7 @@ class Connections(HostCase):
                             ("serving", 1), ("journal_records", ROOM),
                             ("journal_room", ROOM - len(self.kept()))):
             self.assertEqual(found[f"dukpt_{name}"], value, name)
+        self.assertEqual(found["dukpt_group_seconds_count"], found["dukpt_group_frames_count"])
 
     def test_one_request_on_all(self) -> None:
         """The same request over each connection is kept once, and has one reply; of two requests with

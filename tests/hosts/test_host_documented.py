@@ -28,6 +28,8 @@ DEPLOYMENT, OPERATION = (ROOT / "docs" / it for it in ("DEPLOYMENT.md", "OPERATI
 HAPROXY = ROOT / "share/deploy/haproxy.cfg"
 INSTALLED = "/usr/lib/python3/dist-packages/dukpt_host/book/schema.sql"
 ROLE = "dukpt_host"
+RULES = f"local all {ROLE} scram-sha-256\nlocal all all trust\nlocal replication all trust\n"
+PROMPTS = re.compile(r"Enter (new password for user .+?|it again): \n?")
 KEYS = {"bdk": "0123456789ABCDEFFEDCBA9876543210", "zone": "3F419E1CB7079442AA37474C2EFBF8B8"}
 # The fields of a base derivation key, as they stand in the document, and those of a zone key.
 FIELDS = ("B0TX00N", "P0TB00N")
@@ -166,19 +168,23 @@ class Documented(BookCase):
     weight = 5
 
     def test_database(self) -> None:
-        """Over a database that the commands made, with a synchronous standby, a host serves whose role
-        has no more than they grant."""
+        """Over a database that the command made, with a synchronous standby, a host serves whose role
+        has no more than that grants, by the password that was typed."""
         where = folder_for(self)
         self.primary = self.cluster(where, "documented", 5434)
         self.standby = self.cluster(where, "follower", 5435)
         self.primary.make_server()
-        commands = blocks_of(DEPLOYMENT, "Many hosts, over PostgreSQL")[0]
-        self.assertIn(INSTALLED, commands)
-        self.bash(self.primary, commands.replace(INSTALLED, str(SCHEMA)))
+        command = blocks_of(DEPLOYMENT, "Many hosts, over PostgreSQL")[0]
+        self.assertIn(INSTALLED, command)
+        password = self.chance.randbytes(9).hex()
+        self.bash(self.primary, command.replace(INSTALLED, str(SCHEMA)), f"{password}\n" * 2)
+        (self.primary.data / "pg_hba.conf").write_text(RULES)
+        self.primary.sql("select pg_reload_conf()")
+        (self.home / "password").write_text(f"{password}\n")
         self.replicate()
         places = [Place(it.dsn.replace(f"user={HOST_USER}", f"user={ROLE}"))
                   for it in (self.standby, self.primary)]
-        host, given = self.start_host(places=places), payments(20)
+        host, given = self.start_host("--password", "password", places=places), payments(20)
         answers = self.ask_until(host, given)
         self.assertEqual(list(answers.values()), [it.answer for it in given])
         self.wait_for_health(host, 200, "serving")
@@ -186,12 +192,14 @@ class Documented(BookCase):
         stands = [it for it in self.kept(self.primary) if it.code == 0]
         self.assertEqual(self.primary.sql(question), f"{len(stands)}|{sum(it.amount for it in stands)}")
 
-    def bash(self, cluster: Cluster, commands: str) -> None:
+    def bash(self, cluster: Cluster, commands: str, typed: str) -> None:
+        """Runs commands without a terminal, so that what is typed is their input."""
         reached = {"PGHOST": str(cluster.folder), "PGPORT": str(cluster.port), "PGUSER": USER,
-                   "PATH": f"{binaries()}:{os.environ['PATH']}"}
+                   "PGDATABASE": "postgres", "PATH": f"{binaries()}:{os.environ['PATH']}"}
         done = subprocess.run(["bash", "-euc", commands], cwd="/", capture_output=True, text=True,
-                              timeout=SECONDS, check=False, env={**os.environ, **reached})
-        self.assertEqual((done.returncode, done.stderr), (0, ""), commands)
+                              timeout=SECONDS, check=False, env={**os.environ, **reached}, input=typed,
+                              start_new_session=True)
+        self.assertEqual((done.returncode, PROMPTS.sub("", done.stderr)), (0, ""), commands)
 
     # In front
 

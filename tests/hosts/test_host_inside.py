@@ -1,5 +1,6 @@
-"""`dukpt-host` in its own process: what is wiped, a client that comes as the host is told to end, and a
-connection to the database that ends as soon as it is open."""
+"""`dukpt-host` in its own process: what is wiped, a client that comes as the host is told to end, a
+connection to the database that ends as soon as it is open, places of it that are silent, answers that
+come too late, and a state that cannot be written."""
 from __future__ import annotations
 
 import os
@@ -47,6 +48,19 @@ class Inside(Case):
         """A fault of the watch that nobody foresaw has nothing served, until the database is seen again."""
         self.assertEqual(self.found("watched"), [
             "serving; the database does not answer: 'unforeseen'; serving"])
+
+    def test_places(self) -> None:
+        """A place that is silent holds up no other one, and each connection that is not taken is ended."""
+        self.assertEqual(self.found("places"), [
+            "opened one; ended 1, left 0; NotServed: wrong; NotThere: no primary: standby"])
+
+    def test_late_answers(self) -> None:
+        """They are dropped, and a client that reads nothing is closed in its time behind them."""
+        self.assertEqual(self.found("late"), ["0 left, 2 dropped"])
+
+    def test_state(self) -> None:
+        """A failure that cannot be written leaves a journal that is started over a copy alone."""
+        self.assertEqual(self.found("state"), ["no space: running", "failed", "running", "nothing"])
 
     def test_wiped(self) -> None:
         """Lines, digits and local master key of components keep no byte, whether or not a start succeeds;

@@ -138,7 +138,8 @@ class Fault(NamedTuple):
 NO_FILE = "no component file: digits, a space, their check value"
 TOO_FEW = "fewer than two components: --component FILE for each, or the credentials lmk.1 and lmk.2 of systemd"
 CHANGED = "it was changed, or the local master key is another one"
-WEAK = "the local master key is weak: is a component named twice?"
+WEAK = "the local master key is weak: two of its DES keys are equal"
+TWICE = "its check value stands before: is it the same one?"
 OTHER_USE = "it holds a key for another use"
 CLEAR = ("config: keys in the clear: put key blocks in their place, or give --test-keys where they are test"
          " keys")
@@ -202,7 +203,9 @@ FAULTS = (
     Fault(lambda home, _: None, TOO_FEW, ("host.toml", "--component", "lmk.1")),
     # The local master key.
     Fault(second(lambda it, keys: component(keys.chance.randbytes(24))), f"config: zone: {CHANGED}"),
-    Fault(lambda home, _: None, WEAK, ("host.toml", *2 * ("--component", "lmk.1"))),
+    Fault(lambda home, _: None, f"component 2: {TWICE}", ("host.toml", *2 * ("--component", "lmk.1"))),
+    Fault(lambda home, _: None, f"component 3: {TWICE}",
+          ("host.toml", *(word for it in ("lmk.1", "lmk.2", "lmk.1") for word in ("--component", it)))),
     *(Fault(second(lambda it, keys, at=at: component(combined([keys.components[0], weak(keys, at)]))), WEAK)
       for at in range(3)),
     # Key blocks.
@@ -218,6 +221,7 @@ FAULTS = (
     Fault(lambda home, _: (home / "host.toml").unlink(), "config: cannot read"),
     Fault(text(lambda it, _: it + "#" * (1 << 20)), "config: too long"),
     Fault(text(lambda it, _: it + "["), "config: not TOML"),
+    Fault(text(lambda it, _: f"{it}more = {'[' * 9000}"), "config: not TOML"),
     Fault(text(lambda it, keys: f"0{keys.lmk.hex()} = 1\n{it}"), "config: unknown key 1"),
     Fault(text(lambda it, _: f"stores = 1\n{it}"), "config: unknown stores"),
     Fault(text(lambda it, _: it.partition("\n")[2]), "config: bad zone: there is none"),

@@ -191,7 +191,7 @@ class Beside(HostCase):
                       *(("bank.toml", "--journal", "journal", *it)
                         for it in (("--listen", "7000"), ("--listen", "a:b"), ("--idle", "0"),
                                    ("--connections", "-1"), ("--tls", "one"), ("more",), ("--not-replicated",),
-                                   ("--postgres", "postgresql:///dukpt")))):
+                                   ("--password", "it"), ("--postgres", "postgresql:///dukpt")))):
             done = self.run_host(*words)
             self.assertEqual(done.returncode, 2, words)
             self.assertIn("usage: dukpt-host", done.stderr)

@@ -159,20 +159,34 @@ class Installed(PackageCase):
     # The service
 
     def start_as_documented(self) -> None:
-        """Configuration, journal or log, and what listens, by the commands of docs/DEPLOYMENT.md. No
-        systemd runs here, so that a unit is enabled and not started."""
-        text = (ROOT / "docs/DEPLOYMENT.md").read_text(encoding="utf-8")
-        for front, store, unit in ((r"^## One host(?s:.*?)", "payments.journal", "dukpt-host"),
-                                   (r"^\*\*The first start\*\*.*", "used.log", "dukpt.socket")):
+        """Configuration, components, journal or log, and what listens, by the commands of the documents.
+        No systemd runs here, so that a unit is enabled and not started."""
+        self.run_well("bash", "-euc", "cp /usr/share/doc/dukpt/examples/bank.toml /tmp; cd /tmp; touch lmk.1 lmk.2")
+        for page, front, store, unit in (
+                ("DEPLOYMENT", r"^## One host(?s:.*?)", "payments.journal", "dukpt-host"),
+                ("OPERATION", r"^\*\*The first start\*\*.*", "used.log", "dukpt.socket")):
+            text = (ROOT / f"docs/{page}.md").read_text(encoding="utf-8")
             block = re.search(front + r"\n\n((?:    .*\n)+)", text, re.M)
-            self.assertIsNotNone(block, f"docs/DEPLOYMENT.md has no {unit}")
+            self.assertIsNotNone(block, f"docs/{page}.md has no {unit}")
             commands = block[1].replace("enable --now", "enable")
             self.assertIn(f"systemctl enable {unit}\n", commands)
             self.assertIn(f"{store} {DOCUMENTED}\n", commands)
             commands = commands.replace(f"{store} {DOCUMENTED}\n", f"{store} {ROOM}\n")
-            self.run_well("bash", "-euc", f"cd /usr/share/doc/dukpt/examples\n{commands}")
-            self.assert_mode(CONFIGURATION, 0o640, 0, self.group)
+            self.run_well("bash", "-euc", f"cd /tmp\n{commands}")
             self.assert_mode(f"{LOGS}/{store}", 0o600, self.user, self.group)
+            if store == "used.log":
+                self.assert_mode(CONFIGURATION, 0o640, 0, self.group)
+            else:
+                self.check_handed_over()
+
+    def check_handed_over(self) -> None:
+        """Root alone can read what the unit hands to the host, and each such file is there."""
+        named = self.system.path(f"{UNITS}/dukpt-host.service").read_text()
+        files = re.findall(r"^LoadCredential=(.+):/etc/dukpt/(.+)$", named, re.M)
+        self.assertEqual({name for name, _ in files}, {"bank.toml", "lmk.1", "lmk.2"})
+        for name, file in files:
+            self.assertEqual(name, file)
+            self.assert_mode(f"/etc/dukpt/{file}", 0o600, 0, 0)
 
     def unit(self, name: str) -> dict[str, str]:
         """The settings of an installed unit."""

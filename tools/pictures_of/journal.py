@@ -1,5 +1,5 @@
-"""The states of a journal, and what a start makes of each: as docs/FORMATS.md, docs/OPERATION.md and
-docs/DEPLOYMENT.md have them."""
+"""The states of a journal, and what a start makes of each: as docs/FORMATS.md and docs/OPERATION.md
+have them."""
 from __future__ import annotations
 
 from typing import Iterator, Sequence

@@ -30,12 +30,15 @@ def local_master_key(files: Sequence[str]) -> Iterator[bytearray]:
     if len(places) < LEAST:
         raise Refused("fewer than two components: --component FILE for each, or the credentials"
                          " lmk.1 and lmk.2 of systemd")
-    lmk = bytearray()
+    lmk, values = bytearray(), set[bytes]()
     try:
         for at, place in enumerate(places, 1):
-            add_component(lmk, place, f"component {at}")
+            value = add_component(lmk, place, f"component {at}")
+            if value in values:
+                raise Refused(f"component {at}: its check value stands before: is it the same one?")
+            values.add(value)
         if is_weak(lmk):
-            raise Refused("the local master key is weak: is a component named twice?")
+            raise Refused("the local master key is weak: two of its DES keys are equal")
         yield lmk
     finally:
         wipe(lmk)
@@ -46,7 +49,8 @@ def credentials() -> list[Path]:
     return sorted(Path(folder).glob("lmk.[1-9]")) if folder else []
 
 
-def add_component(lmk: bytearray, place: Path, name: str) -> None:
+def add_component(lmk: bytearray, place: Path, name: str) -> bytes:
+    """Adds the component of a file, and answers its check value."""
     line = bytearray(LONGEST + 1)
     component = bytearray()
     try:
@@ -65,6 +69,7 @@ def add_component(lmk: bytearray, place: Path, name: str) -> None:
         lmk += bytes(0 if lmk else len(component))
         for at, byte in enumerate(component):
             lmk[at] ^= byte
+        return told
     finally:
         wipe(line)
         wipe(component)

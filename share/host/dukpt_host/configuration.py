@@ -119,7 +119,7 @@ def read_toml(path: str) -> Mapping[str, Any]:
         raise Refused("config: too long")
     try:
         return tomllib.loads(data.decode("utf-8"))
-    except ValueError:
+    except (ValueError, RecursionError):
         raise Refused("config: not TOML") from None
 
 

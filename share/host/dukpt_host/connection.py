@@ -79,10 +79,10 @@ class Connection(asyncio.Protocol, Source):
     # To the client
 
     def answered(self, answers: Sequence[bytes]) -> None:
-        self.unanswered -= len(answers)
         if self.is_gone or self.transport.is_closing():
             self.keeper.dropped(len(answers))
             return
+        self.unanswered -= len(answers)
         self.moved = monotonic()
         self.transport.write(b"".join(answers))
         if self.transport.get_write_buffer_size() > self.keeper.unread:

@@ -42,6 +42,8 @@ class Exchange:
         self.waiting, self.connections = waiting, connections
         self.metrics, self.log, self.loss = metrics, log, loss
         self.groups: dict[Decider, list[Part]] = {}
+        # When each of them was given.
+        self.given: dict[Decider, float] = {}
         self.is_stopping = False
         metrics.waiting = self.frames_without_answer
 
@@ -55,7 +57,7 @@ class Exchange:
         try:
             while await self.has_group(decider):
                 answers = await decider.take()
-                group = self.groups[decider]
+                group, took = self.groups[decider], monotonic() - self.given.pop(decider)
                 if not all_belong(group, answers):
                     self.log.line("an answer is not that to its frame: what gave it is ended")
                     decider.kill()
@@ -66,6 +68,8 @@ class Exchange:
                 if not decider.has_ended:
                     self.give(decider)
                 self.hand_out(group, answers)
+                if frames_of_connections(group):
+                    self.metrics.deciding.add(took)
         except Ended:
             self.lose_group(decider)
 
@@ -85,7 +89,7 @@ class Exchange:
         self.waiting.stirred.clear()
         group = self.waiting.group()
         if group:
-            self.groups[decider] = group
+            self.groups[decider], self.given[decider] = group, monotonic()
             decider.give(frames_of(group))
             count = frames_of_connections(group)
             if count:
@@ -118,6 +122,7 @@ class Exchange:
     def lose_group(self, decider: Decider) -> None:
         """The frames of the group get no answer: their connections end."""
         group = self.groups.pop(decider, [])
+        self.given.pop(decider, None)
         self.waiting.done(group)
         self.metrics.unanswered += frames_of_connections(group)
         self.lose({part.source for part in group})
@@ -140,13 +145,17 @@ class Exchange:
         return frames_of_connections([*groups, *chain.from_iterable(it.parts for it in sources)])
 
     async def probe(self, seconds: float) -> bool:
-        """Whether frames are decided within so many seconds."""
+        """Whether frames are decided within so many seconds: one that changes nothing, and all that
+        are under way."""
         probe = Probe()
         self.waiting.add(probe, [PROBE], monotonic())
         try:
-            return await asyncio.wait_for(probe.has_answer, seconds)
+            is_answered = await asyncio.wait_for(probe.has_answer, seconds)
         except asyncio.TimeoutError:
             return False
+        finally:
+            self.waiting.forget(probe)
+        return is_answered and all(monotonic() - it <= seconds for it in self.given.values())
 
 
 def frames_of(group: Sequence[Part]) -> list[bytes]:

@@ -45,7 +45,11 @@ class Host:
         beats = asyncio.create_task(self.beat())
         doors = [asyncio.create_task(self.let_in(it)) for it in self.sockets]
         stopping = asyncio.create_task(self.service.stopping.wait())
-        await asyncio.wait([serving, stopping], return_when=asyncio.FIRST_COMPLETED)
+        await asyncio.wait([serving, stopping, beats, *doors], return_when=asyncio.FIRST_COMPLETED)
+        # These go on for ever, but for a fault that nobody foresaw: that ends the host.
+        broken = [it for it in (beats, *doors) if it.done()]
+        if broken:
+            self.stop()
         notify("STOPPING=1")
         for task in doors:
             task.cancel()
@@ -59,6 +63,8 @@ class Host:
             beats.cancel()
             if web:
                 web.close()
+        for task in broken:
+            await task
         return self.service.status
 
     def stop(self) -> None:

@@ -57,9 +57,11 @@ class State:
         return Held.RUNNING if self.boot.strip() in text else Held.NOTHING
 
     def keep(self, held: Held) -> None:
-        """Writes it, and makes sure of it."""
-        os.ftruncate(self.handle, 0)
-        os.pwrite(self.handle, self.texts[held].encode(), 0)
+        """Writes it, and makes sure of it. What is longer is cut off behind the write, so that a
+        write that fails leaves what stood there."""
+        text = self.texts[held].encode()
+        os.pwrite(self.handle, text, 0)
+        os.ftruncate(self.handle, len(text))
         os.fsync(self.handle)
         sync_folder(self.path)
 
@@ -74,8 +76,8 @@ def sync_folder(path: Path) -> None:
 
 async def put_copy(program: str, journal: Path) -> None:
     """Puts a checked copy in the place of a journal. What a failed sync kept from the disk is still
-    read, and goes to the disk with the copy: docs/DEPLOYMENT.md, "When the journal or the
-    log has failed"."""
+    read, and goes to the disk with the copy: docs/OPERATION.md, "When the journal or the log
+    has failed"."""
     copy = Path(f"{journal}.recovered")
     copy.unlink(missing_ok=True)
     left = PATIENCE

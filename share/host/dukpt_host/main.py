@@ -3,6 +3,7 @@ from __future__ import annotations
 
 import asyncio
 import gc
+import logging
 from typing import Any, Callable, Coroutine, Optional, Sequence
 
 from . import configuration
@@ -25,6 +26,8 @@ def run(work: Coroutine[Any, Any, int], loop: Optional[NewLoop]) -> int:
     # A payment leaves no cycle behind: to look for cycles seldom spares it the longest waits.
     gc.freeze()
     gc.set_threshold(50_000, 20, 100)
+    # Of each write to a client that is gone, asyncio tells a line, which nothing bounds.
+    logging.getLogger("asyncio").setLevel(logging.ERROR)
     with asyncio.Runner(loop_factory=loop) as runner:
         return runner.run(work)
 

@@ -58,6 +58,7 @@ class Metrics(Collector):
         self.is_serving = False
         self.closed, self.refused = from_zero(CLOSED), from_zero(REFUSED)
         self.seconds, self.groups = Histogram(SECONDS), Histogram(FRAMES)
+        self.deciding = Histogram(SECONDS)
         self.registry = CollectorRegistry()
         self.registry.register(self)
 
@@ -72,6 +73,7 @@ class Metrics(Collector):
         yield answers
         yield self.seconds.family("dukpt_answer_seconds", "From a frame's arrival to its answer.")
         yield self.groups.family("dukpt_group_frames", "Frames given to the service at once.")
+        yield self.deciding.family("dukpt_group_seconds", "From a group to its answers, syncs too.")
         for name, text, value in self.totals():
             yield CounterMetricFamily(name, text, value=value)
         yield by_word("dukpt_connections_closed", "Connections that ended, by why.", self.closed)

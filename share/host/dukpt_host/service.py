@@ -138,7 +138,7 @@ class Service:
         self.wrong, self.has_failed = why, True
         self.log.line(f"nothing is served until somebody sees to it: {why}")
         self.exchange.lose_all()
-        self.exchange.connections.lose_all("restart")
+        self.exchange.connections.lose_all("not serving")
         self.settled.set()
 
     def collect(self) -> Iterator[Metric]:

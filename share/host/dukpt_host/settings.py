@@ -30,12 +30,13 @@ class Journal:
 
 @dataclass(frozen=True)
 class Database:
-    """Where the database may be, whether it has to be replicated, and how many groups are settled
-    in it at once."""
+    """Where the database may be, whether it has to be replicated, how many groups are settled in it
+    at once, and the file with its password, if it is to be read."""
 
     places: Sequence[str]
     is_replicated: bool
     groups: int
+    password: Optional[str] = None
 
 
 @dataclass(frozen=True)

@@ -89,8 +89,8 @@ class Cluster:
         """Makes a server with the book, and starts it."""
         self.make_server()
         self.sql("create database dukpt", database="postgres")
-        self.run("psql", *self.words("dukpt"), "--single-transaction", "-f", str(SCHEMA))
-        self.sql(f"create role {HOST_USER} login in role dukpt_host, pg_read_all_stats")
+        self.run("psql", *self.words("dukpt"), "-f", str(SCHEMA))
+        self.sql(f"create role {HOST_USER} login in role dukpt_host")
 
     def make_server(self) -> None:
         self.run("initdb", "-D", str(self.data), "-A", "trust", "-U", USER, "--no-sync")

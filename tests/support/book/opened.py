@@ -15,11 +15,12 @@ from ..program import ROOT
 
 sys.path.insert(0, str(ROOT / "share/host"))
 from dukpt_host.book.opening import NotServed, open_ready  # noqa: E402
+from dukpt_host.settings import Database  # noqa: E402
 
 
 async def answer(dsn: str, statement: str) -> str:
     try:
-        connection = await open_ready([dsn], False)
+        connection = await open_ready(Database((dsn,), False, 1))
     except NotServed as why:
         return str(why)
     try:

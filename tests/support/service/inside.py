@@ -8,6 +8,7 @@ It writes what it finds, a line for each.
 from __future__ import annotations
 
 import asyncio
+import os
 import socket
 import sys
 from pathlib import Path
@@ -20,12 +21,15 @@ sys.path.insert(0, str(Path(__file__).resolve().parents[3] / "share/host"))
 import dukpt_host.host  # noqa: E402
 from dukpt import Module  # noqa: E402
 from dukpt_host import arguments, components, keys  # noqa: E402
+from dukpt_host.book import opening  # noqa: E402
 from dukpt_host.book import service as book  # noqa: E402
 from dukpt_host.configuration import Refused  # noqa: E402
+from dukpt_host.connection import Connection  # noqa: E402
 from dukpt_host.connections import Connections, Limits  # noqa: E402
 from dukpt_host.exchange import Exchange  # noqa: E402
 from dukpt_host.frames import MALFORMED, PROBE  # noqa: E402
 from dukpt_host.host import Host  # noqa: E402
+from dukpt_host.journal import Held, State  # noqa: E402
 from dukpt_host.log import Log  # noqa: E402
 from dukpt_host.metrics import Metrics  # noqa: E402
 from dukpt_host.service import Service  # noqa: E402
@@ -200,6 +204,92 @@ async def watched() -> str:
     return "; ".join(seen)
 
 
+# Several places of a database, of which some are silent
+
+
+class Opened:
+    """A connection to a place."""
+
+    def __init__(self, place: str, ended: list[str]) -> None:
+        self.place, self.ended = place, ended
+
+    def terminate(self) -> None:
+        self.ended.append(self.place)
+
+
+async def places() -> str:
+    """What is opened of places of which one is silent, and what is ended of those that nobody takes; and what
+    is told of places of which none can be served over."""
+    ended = list[str]()
+
+    async def open_place(place: str, _: object) -> Opened:
+        if place == "silent":
+            await asyncio.Event().wait()
+        if place == "standby":
+            raise opening.NotThere(place)
+        if place == "wrong":
+            raise opening.NotServed(place)
+        return Opened(place, ended)
+
+    setattr(opening, "open_place", open_place)
+    found = await asyncio.wait_for(opening.open_ready(
+        Database(("silent", "standby", "wrong", "one", "other"), True, 1)), SECONDS)
+    await asyncio.sleep(0.01)
+    told = [f"opened {found.place}" if found.place not in ended else "opened and ended",
+            f"ended {len(ended)}, left {len(asyncio.all_tasks()) - 1}"]
+    for names in (("standby", "wrong", "standby"), ("standby", "standby")):
+        try:
+            await opening.open_ready(Database(names, True, 1))
+        except opening.NotServed as why:
+            told.append(f"{type(why).__name__}: {why}")
+    return "; ".join(told).replace("opened other", "opened one")
+
+
+# Answers that come behind the loss of their connection
+
+
+async def late() -> str:
+    """How many connections are left of a client that reads nothing, behind the time for its last answers."""
+    waiting, metrics, log = Waiting(), Metrics(), Log()
+    with_all = Connections(Limits(closing=0.05), waiting, metrics, log)
+    it = Connection(with_all, "a client")
+    mine, theirs = socket.socketpair()
+    with mine:
+        await asyncio.get_running_loop().connect_accepted_socket(lambda: it, theirs)
+        mine.sendall(FRAME * 2)
+        while it.unanswered < 2:
+            await asyncio.sleep(0.001)
+        it.transport.write(bytes(1 << 22))
+        with_all.lose_all("not serving")
+        it.answered([ANSWER] * 2)
+        await asyncio.sleep(0.1)
+        with_all.look()
+        await asyncio.sleep(0.01)
+    return f"{len(with_all.all)} left, {metrics.dropped} dropped"
+
+
+# A state that cannot be written
+
+
+def state() -> Iterator[str]:
+    """What it says behind a write that fails, and behind each that does not."""
+    kept, writes = State(Path("journal")), os.pwrite
+    kept.keep(Held.RUNNING)
+
+    def fails(*_: object) -> int:
+        raise OSError("no space")
+
+    setattr(os, "pwrite", fails)
+    try:
+        kept.keep(Held.FAILED)
+    except OSError as why:
+        yield f"{why}: {kept.held().value}"
+    setattr(os, "pwrite", writes)
+    for held in (Held.FAILED, Held.RUNNING, Held.NOTHING):
+        kept.keep(held)
+        yield kept.held().value
+
+
 # What has keys
 
 
@@ -255,7 +345,8 @@ def wiped() -> Iterator[str]:
 
 WHAT: dict[str, Callable[[], Iterator[str]]] = {
     "entering": entering, "lanes": lambda: iter([asyncio.run(lanes())]), "wiped": wiped,
-    "watched": lambda: iter([asyncio.run(watched())])}
+    "watched": lambda: iter([asyncio.run(watched())]), "places": lambda: iter([asyncio.run(places())]),
+    "late": lambda: iter([asyncio.run(late())]), "state": state}
 
 
 def main(words: Sequence[str]) -> None:

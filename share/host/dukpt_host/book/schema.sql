@@ -1,9 +1,12 @@
 -- The book of payments and reversals, for PostgreSQL 14 and later. Its owner runs this file once, in an
--- empty database: psql --single-transaction --file schema.sql. A host needs no more than what is
--- granted at the end, and of the server pg_read_all_stats, by which it sees the standbys.
+-- empty database, by psql --file schema.sql: all of it counts or nothing does. The owner may make roles
+-- and grant pg_read_all_stats, as a superuser may. A host needs no more than what is granted at the end.
 --
 -- Numbers are key serial numbers of 10 bytes. That a number is kept once is the word of the index of
 -- dukpt.number; no host has a lock, a lease or a clock of its own.
+
+\set ON_ERROR_STOP on
+begin;
 
 create schema dukpt;
 -- A host serves over no book of another form.
@@ -149,16 +152,19 @@ begin
 end
 $$;
 
--- The role of the hosts.
+-- The role of the hosts. It has no password yet.
 do $$
 begin
     if not exists (select from pg_roles where rolname = 'dukpt_host') then
-        create role dukpt_host;
+        create role dukpt_host login;
     end if;
 end
 $$;
--- They read the book, and change it by that function alone.
+-- They see the standbys, read the book, and change it by that function alone.
+grant pg_read_all_stats to dukpt_host;
 grant usage on schema dukpt to dukpt_host;
 grant select on dukpt.terminal, dukpt.number, dukpt.standing to dukpt_host;
 revoke all on function dukpt.settle from public;
 grant execute on function dukpt.settle to dukpt_host;
+
+commit;

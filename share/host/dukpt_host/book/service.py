@@ -24,7 +24,7 @@ class BookService:
     """It serves while the database keeps what it acknowledges, as `demands` has it. Else nobody is
     let in, and whoever is in is sent away."""
 
-    silent = "the database settles nothing"
+    silent = "the database does not settle a group"
 
     def __init__(self, database: Database, module: Module, exchange: Exchange, metrics: Metrics,
                  log: Log) -> None:
@@ -54,13 +54,15 @@ class BookService:
 
     async def run(self) -> None:
         watch = asyncio.create_task(self.watch())
-        await asyncio.gather(*(self.keep_lane() for _ in range(self.database.groups)))
-        watch.cancel()
-        # A database that is silent by now would not answer a farewell either.
-        if self.watching is not None:
-            self.watching.terminate()
-        self.exchange.lose_all()
-        self.module.close()
+        try:
+            await asyncio.gather(*(self.keep_lane() for _ in range(self.database.groups)))
+        finally:
+            watch.cancel()
+            # A database that is silent by now would not answer a farewell either.
+            if self.watching is not None:
+                self.watching.terminate()
+            self.exchange.lose_all()
+            self.module.close()
 
     def collect(self) -> Iterator[Metric]:
         yield from self.counts.collect()
@@ -84,7 +86,7 @@ class BookService:
     async def look(self) -> None:
         """Looks at the database. It raises where that cannot be served over."""
         if self.watching is None:
-            self.watching = await open_ready(self.database.places, self.database.is_replicated)
+            self.watching = await open_ready(self.database)
         try:
             self.counts.standbys = await standbys(self.watching, self.database.is_replicated)
         except Exception:
@@ -121,18 +123,18 @@ class BookService:
                 return
             try:
                 lane = await self.open_lane()
-            except NotServed as why:
+            except Exception as why:
+                # A fault that nobody foresaw ends no host either: the watch tells of it.
                 if not self.wrong:
-                    self.log.clients.tell(f"a connection to the database is not open: {why}")
+                    self.log.clients.tell(f"a connection to the database is not open: {told(why)}")
                 await asyncio.sleep(REST)
                 continue
             await self.serve(lane)
 
     async def open_lane(self) -> Lane:
-        is_replicated = self.database.is_replicated
-        connection = await open_ready(self.database.places, is_replicated)
+        connection = await open_ready(self.database)
         try:
-            return Lane(connection, is_replicated, self.module, self.counts, self.log)
+            return Lane(connection, self.database.is_replicated, self.module, self.counts, self.log)
         except FAULTS as why:
             # It has ended again meanwhile.
             raise NotServed(told(why)) from None
