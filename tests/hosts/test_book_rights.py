@@ -1,10 +1,12 @@
 """Who may read and change the book in PostgreSQL: the catalog is asked, and another role tries. What a
-caller puts in the place of PostgreSQL's own functions and types is not called in the name of the owner."""
+caller puts in the place of PostgreSQL's own functions and types is not called in the name of the owner. The
+role of the hosts keeps nothing that is no payment or reversal; and who may not make all of the book makes
+nothing of it."""
 from __future__ import annotations
 
 from typing import Optional
 
-from ..support.book.cluster import HOST_USER, USER, Cluster, folder_for
+from ..support.book.cluster import HOST_USER, SCHEMA, USER, Cluster, folder_for
 from ..support.book.groups import MACS, call_of, number_of
 from ..support.book.plants import PATH, TEMPORARY, Plant, with_plant
 from ..support.case import Case
@@ -92,3 +94,23 @@ class Rights(Case):
         group = [Asked(paid, MACS[0], 5), Asked(own, MACS[0], reversed=own[:-1] + b"\3")]
         self.assertEqual(self.tried(HOST_USER, before, call_of(group)), "{0,0}")
         return self.cluster.sql("select distinct who from intruder.seen")
+
+    def test_fields(self) -> None:
+        """Nothing is kept that no host could answer, whoever has the role of the hosts."""
+        paid, own = (number_of(1, it) for it in (1, 2))
+        for it in (Asked(paid, MACS[0], 5, 99), Asked(paid, MACS[0], 1 << 32), Asked(paid, MACS[0], -1),
+                   Asked(paid, MACS[0][1:], 5), Asked(paid[1:], MACS[0], 5), Asked(own, MACS[0], reversed=own),
+                   Asked(own, MACS[0], reversed=number_of(2, 1)), Asked(own, MACS[0], reversed=paid[1:])):
+            self.assertIn("violates check constraint", self.tried(HOST_USER, call_of([it])), it)
+        self.assertEqual(self.cluster.sql("select count(*) from dukpt.number"), "0")
+
+    def test_all_or_nothing(self) -> None:
+        """One who may not grant what the hosts need leaves nothing, and no further command is run."""
+        self.cluster.sql("create role owner login", "create database other owner owner")
+        where = self.cluster.dsn.replace("/dukpt?", "/other?").replace(f"user={HOST_USER}", "user=owner")
+        said = self.cluster.run("psql", "-X", "-A", "-t", where, "-f", str(SCHEMA), "-c", "select 'behind'",
+                                check=False)
+        self.assertIn("pg_read_all_stats", said)
+        self.assertNotIn("behind", said)
+        self.assertEqual(self.cluster.sql("select nspname from pg_namespace where nspname = 'dukpt'",
+                                          database="other"), "")

@@ -196,6 +196,17 @@ class Connections(HostCase):
             time.sleep(0.05)
         self.assertEqual(bits.take_answers(1), [given[6].answer])
 
+    def test_a_frame_in_drops(self) -> None:
+        """A frame has its time from its first byte on, however the others come."""
+        self.make_journal(100)
+        host, frame = self.start_host("--frame", "1"), payments(1)[0].frame
+        client = self.connect(host)
+        drops = (client.send(frame[at : at + 1]) for at in range(len(frame)))
+        while next(drops, False):
+            time.sleep(0.1)
+        self.assertEqual(client.take_all(), b"")
+        host.told("closed: a frame is not finished in time")
+
     def test_too_many(self) -> None:
         self.make_journal(100)
         host = self.start_host("--connections", "3")

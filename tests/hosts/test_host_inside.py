@@ -1,6 +1,6 @@
-"""`dukpt-host` in its own process: what is wiped, a client that comes as the host is told to end, a
-connection to the database that ends as soon as it is open, places of it that are silent, answers that
-come too late, and a state that cannot be written."""
+"""`dukpt-host` in its own process: what is wiped, a client that comes as the host is told to end, one that
+reads nothing, which addresses others reach, a connection to the database that ends as soon as it is open,
+and places of it that are silent."""
 from __future__ import annotations
 
 import os
@@ -40,9 +40,27 @@ class Inside(Case):
         self.assertEqual(set(found), {NOT_READ, READ})
         self.assertEqual((found[0], found[-1]), (NOT_READ, READ))
 
+    def test_reads_nothing(self) -> None:
+        """A client that reads nothing is closed in the end, also where its frames were lost and answered."""
+        self.assertEqual(self.found("unread"), ["0 connections, 1 answers dropped"])
+
+    def test_closed_once(self) -> None:
+        """A connection is closed once, whatever ends it: asyncio forgets how to end one over TLS that is
+        closed again."""
+        self.assertEqual(self.found("closed"), ["closed 1 times"])
+
+    def test_reached(self) -> None:
+        """An address is one of this machine alone, or other machines reach it; of a client that is gone
+        without a word the system knows after a minute and a half."""
+        self.assertEqual(self.found("reached"), ["127.0.0.1 127.8.8.8 ::1", "1 [60, 10, 3]"])
+
     def test_lanes(self) -> None:
         """A host goes on behind connections that end at once. It closes its module when it ends."""
         self.assertEqual(self.found("lanes"), ["opened 3, closed 1"])
+
+    def test_heard(self) -> None:
+        """That a wait for the standby was cancelled is heard in whatever language the server says it."""
+        self.assertEqual(self.found("heard"), ["WARNUNG: True", "HINWEIS: False"])
 
     def test_watched(self) -> None:
         """A fault of the watch that nobody foresaw has nothing served, until the database is seen again."""
@@ -53,14 +71,6 @@ class Inside(Case):
         """A place that is silent holds up no other one, and each connection that is not taken is ended."""
         self.assertEqual(self.found("places"), [
             "opened one; ended 1, left 0; NotServed: wrong; NotThere: no primary: standby"])
-
-    def test_late_answers(self) -> None:
-        """They are dropped, and a client that reads nothing is closed in its time behind them."""
-        self.assertEqual(self.found("late"), ["0 left, 2 dropped"])
-
-    def test_state(self) -> None:
-        """A failure that cannot be written leaves a journal that is started over a copy alone."""
-        self.assertEqual(self.found("state"), ["no space: running", "failed", "running", "nothing"])
 
     def test_wiped(self) -> None:
         """Lines, digits and local master key of components keep no byte, whether or not a start succeeds;

@@ -4,6 +4,7 @@ from __future__ import annotations
 
 import os
 import random
+import re
 import signal
 import threading
 import time
@@ -14,7 +15,7 @@ from ..support.formats.journal_records import Entry
 from ..support.models.model_journal import answers_of, judged, payments_of_all
 from ..support.program import Limits
 from ..support.service.client import Exchange, payments
-from ..support.service.host import Client, HostCase, Running, at_once
+from ..support.service.host import Client, HostCase, Running, at_once, children_of
 from ..support.service.journal_case import stream_of
 from ..support.service.journal_kills import told_of
 from ..support.service.reversals import reversals_of
@@ -27,6 +28,9 @@ KILLS = 6
 # From a kill to the first answer, over the journals of these tests, also where the machine has much else
 # to do; `bench/load` measures it.
 SOON = 10.0
+# A copy takes the place of the journal, and then its folder is opened and synced.
+SYNCED = re.compile(r'rename\("(.*)/journal\.recovered", "\1/journal"\) = 0\n'
+                    r'(\d+ +)openat\(\w+, "\1", \S*O_DIRECTORY\S*\) = (\d+)\n\2fsync\(\3\) += 0')
 
 
 class Asking:
@@ -145,6 +149,25 @@ class Killed(HostCase):
         self.assertEqual(host.health(), (200, "test keys: serving\n"))
         self.assertEqual(sorted(it.name for it in self.home.iterdir()),
                          ["bank.toml", "journal", "journal.state", "wide.toml"])
+
+    def test_copy_is_synced(self) -> None:
+        """The name of a copy is on the disk before anything is kept behind it: else a loss of power brings
+        the journal back that may have failed."""
+        self.make_journal(100)
+        trace = self.home / "trace"
+        host = self.start_host(behind=("strace", "-f", "-qq", "-e", "trace=rename,openat,fsync", "-o", str(trace)))
+        host.told("listening on")
+        os.kill(host.below(), signal.SIGKILL)
+        host.told("serving after", 2)
+        os.kill(next(children_of(host.process.pid)), signal.SIGTERM)
+        self.assertEqual(host.end(), 0)
+        self.assertRegex(trace.read_text(), SYNCED)
+
+    def test_session(self) -> None:
+        """What ends a host by its terminal tells the process below nothing: it answers what it has read."""
+        self.make_journal(100)
+        below = self.start_host().below()
+        self.assertEqual(os.getsid(below), below)
 
     def test_stopped_below(self) -> None:
         """Of a process that does not answer the health tells that."""
@@ -288,9 +311,11 @@ class Killed(HostCase):
         pairs = [(counter_of(given[60 + at]), counter_of(given[at])) for at in range(6)]
         frames = [*given[:40], *reversals_of(pairs)]
         client = self.connect(host)
+        told = host.metrics()["dukpt_journal_room_payments"]
         client.send(stream_of(frames))
         client.end_side()
         self.assertEqual(client.take_all(), answers_of(judged(frames, [], room)))
+        self.assertEqual(sum(it.answer[3] == 2 for it in judged(frames[:40], [], room)), told)
         found = host.metrics()
         self.assertEqual(found["dukpt_journal_room_payments"], 0)
         self.assertEqual(found["dukpt_journal_room"], 0)

@@ -13,6 +13,7 @@ import subprocess
 import sys
 import time
 from typing import Iterator, Sequence
+from unittest import mock
 
 from ..service.test_unit import CALL, NAMESPACE, WRITTEN_AND_RUN, filtered
 from ..support.book.hosts import library
@@ -24,8 +25,9 @@ from ..support.service.host_keys import HostKeys
 from ..support.service.journal_case import stream_of
 
 sys.path.insert(0, str(HOST.parent))
-from dukpt_host.below import Below  # noqa: E402
-from dukpt_host.waiting import Source, Waiting  # noqa: E402
+from dukpt_host.below import Below, End  # noqa: E402
+from dukpt_host.journal import Held, State  # noqa: E402
+from dukpt_host.waiting import GROUP, Source, Waiting  # noqa: E402
 
 PACKAGE = HOST.parent / "dukpt_host"
 UNIT = ROOT / "share/deploy/dukpt-host.service"
@@ -90,6 +92,16 @@ class Beside(HostCase):
              UNIT], capture_output=True, text=True, check=False)
         self.assertEqual(done.returncode, 0, f"{done.stdout[-300:]}{done.stderr}")
 
+    def test_unit(self) -> None:
+        """What no rating sees: it alone is told to end, and is started again behind a fault; keys go to no
+        disk; and of its metrics other machines see nothing."""
+        told = dict(re.findall(r"^(\w+)=(.*)$", UNIT.read_text(), re.M))
+        wanted = {"Type": "notify", "User": "dukpt", "UMask": "0077", "KillMode": "mixed", "Restart": "on-failure",
+                  "LimitCORE": "0", "MemorySwapMax": "0"}
+        self.assertEqual({name: told.get(name) for name in wanted}, wanted)
+        self.assertGreater(int(told["WatchdogSec"]), 0)
+        self.assertRegex(told["ExecStart"], r"^/usr/bin/dukpt-host %d/\S+ --journal \S+ --metrics 127\.0\.0\.1:\d+$")
+
     def test_calls(self) -> None:
         """The unit forbids no call that host and program make, with key blocks, over a kill and to an
         end in order."""
@@ -141,6 +153,19 @@ class Beside(HostCase):
             self.assertEqual(host.stop(), 0)
             self.assertIn("STOPPING=1", list(all_of(told)))
 
+    def test_watchdog(self) -> None:
+        """systemd hears of a host before its time is over: it ends one of which it does not."""
+        self.make_journal(100)
+        place, heard = self.home / "notify", list[float]()
+        with socket.socket(socket.AF_UNIX, socket.SOCK_DGRAM) as told:
+            told.bind(str(place))
+            told.settimeout(SECONDS)
+            self.start_host(environment={"NOTIFY_SOCKET": str(place), "WATCHDOG_USEC": "1000000"})
+            while len(heard) < 5:
+                if told.recv(4096) == b"WATCHDOG=1":
+                    heard.append(time.monotonic())
+        self.assertLess(min(later - one for one, later in zip(heard, heard[1:])), 1)
+
     def test_sockets_of_systemd(self) -> None:
         """It serves on the socket that it is handed, and opens none."""
         self.make_journal(100)
@@ -161,6 +186,15 @@ class Beside(HostCase):
             said = process.communicate(timeout=SECONDS)[1].decode()
             self.assertEqual(process.returncode, 0, said)
             self.assertIn(f"listening on 127.0.0.1:{listens.getsockname()[1]}\n", said)
+
+    def test_silent_reader_of_metrics(self) -> None:
+        """One that does not finish its question is closed after a while: it would keep a handle for ever."""
+        self.make_journal(100)
+        host = self.start_host()
+        with socket.create_connection(host.address("metrics and health on"), SECONDS) as reader:
+            reader.sendall(b"GET /metrics HTTP/1.1\r\n")
+            self.assertEqual(reader.recv(1), b"")
+        self.assertEqual(host.health()[0], 200)
 
     # Starts
 
@@ -309,6 +343,33 @@ class Beside(HostCase):
             self.assertNotIn(secret, said)
 
 
+class OverKills(Case):
+    def test_states(self) -> None:
+        """The state that was kept last stands, also behind a write that fails: never that nothing was lost."""
+        state = State(self.folder() / "journal")
+        self.addCleanup(os.close, state.handle)
+        for held in (Held.FAILED, Held.RUNNING, Held.NOTHING, Held.RUNNING):
+            state.keep(held)
+            self.assertEqual(state.held(), held)
+        with mock.patch.object(os, "pwrite", side_effect=OSError), self.assertRaises(OSError):
+            state.keep(Held.FAILED)
+        self.assertEqual(state.held(), Held.RUNNING)
+
+    def test_another_boot(self) -> None:
+        """What ran in another boot is read from the disk now. A journal that failed waits for a human still."""
+        state = State(self.folder() / "journal")
+        self.addCleanup(os.close, state.handle)
+        for text, held in (("another\n", Held.NOTHING), ("another\nfailed\n", Held.FAILED)):
+            state.path.write_text(text)
+            self.assertEqual(state.held(), held)
+
+    def test_ends(self) -> None:
+        """By itself the process below ends with a status up to 2. Behind any other end a sync may have failed."""
+        for status in (*range(-31, 0), *range(3, 256)):
+            self.assertTrue(End(status, []).is_killed, status)
+        self.assertFalse(any(End(status, []).is_killed for status in range(3)))
+
+
 class Flood(Source):
     """A source that may be kept from reading."""
 
@@ -333,6 +394,19 @@ class Waits(Case):
             self.assertEqual([it.is_read for it in sources], read)
             waiting.group()
             self.assertTrue(all(it.is_read for it in sources))
+
+    def test_turns(self) -> None:
+        """While frames of a source are decided no others of it are: those behind them would overtake them."""
+        for more in range(2):
+            waiting, source = Waiting(), Flood()
+            waiting.add(source, [bytes(2)] * (GROUP + more), 0)
+            first = waiting.group()
+            self.assertEqual(sum(len(it.frames) for it in first), GROUP)
+            self.assertEqual(waiting.group(), [])
+            waiting.add(source, [bytes(3)], 0)
+            self.assertEqual(waiting.group(), [])
+            waiting.done(first)
+            self.assertEqual([it.frames for it in waiting.group()], [[bytes(2)]] * more + [[bytes(3)]])
 
 
 def refusals_told(lines: Sequence[str]) -> int:

@@ -35,7 +35,8 @@ class Tls(HostCase):
             return None
 
     def test_certificates(self) -> None:
-        host, given = self.start_host(*TLS), payments(4)
+        """No other authority counts, also where the system believes it."""
+        host, given = self.start_host(*TLS, environment={"SSL_CERT_FILE": "theirs.pem"}), payments(4)
         right = client_context(self.home, "right")
         self.assertEqual(self.answer(host, right, given[0].frame), given[0].answer)
         for context in (client_context(self.home, "wrong"), client_context(self.home), None):
@@ -55,6 +56,15 @@ class Tls(HostCase):
         for _ in range(3):
             self.connect(host)
         host.told("not let in: too many")
+
+    def test_silent_handshake(self) -> None:
+        """One that never shows a certificate is closed, so that it takes no place from another for long."""
+        host = self.start_host(*TLS, "--connections", "1")
+        client, began = self.connect(host), time.monotonic()
+        self.assertEqual(client.take_all(), b"")
+        self.assertLess(time.monotonic() - began, 30)
+        context, given = client_context(self.home, "right"), payments(1)[0]
+        self.assertEqual(self.answer(host, context, given.frame), given.answer)
 
     def test_many(self) -> None:
         """Answers in their order, to several at once."""

@@ -8,11 +8,12 @@ It writes what it finds, a line for each.
 from __future__ import annotations
 
 import asyncio
-import os
 import socket
 import sys
 from pathlib import Path
+from types import SimpleNamespace
 from typing import Any, Callable, Iterator, Sequence
+from unittest.mock import Mock
 
 import asyncpg
 import uvloop
@@ -23,13 +24,15 @@ from dukpt import Module  # noqa: E402
 from dukpt_host import arguments, components, keys  # noqa: E402
 from dukpt_host.book import opening  # noqa: E402
 from dukpt_host.book import service as book  # noqa: E402
+from dukpt_host.book.counts import Counts  # noqa: E402
+from dukpt_host.book.lane import Lane  # noqa: E402
 from dukpt_host.configuration import Refused  # noqa: E402
 from dukpt_host.connection import Connection  # noqa: E402
 from dukpt_host.connections import Connections, Limits  # noqa: E402
 from dukpt_host.exchange import Exchange  # noqa: E402
 from dukpt_host.frames import MALFORMED, PROBE  # noqa: E402
 from dukpt_host.host import Host  # noqa: E402
-from dukpt_host.journal import Held, State  # noqa: E402
+from dukpt_host.listening import is_local, prepare  # noqa: E402
 from dukpt_host.log import Log  # noqa: E402
 from dukpt_host.metrics import Metrics  # noqa: E402
 from dukpt_host.service import Service  # noqa: E402
@@ -131,6 +134,83 @@ def entering() -> Iterator[str]:
                 yield runner.run(told_to_end(turns))
 
 
+# A client that reads nothing, and whose frames are lost
+
+
+async def unread() -> str:
+    """How many connections there are behind the time for last answers, of one whose frames are answered
+    once they are lost, as those of a group that is under way may be."""
+    waiting, metrics, log = Waiting(), Metrics(), Log()
+    of_all = Connections(Limits(unread=1 << 30, closing=0.1), waiting, metrics, log)
+    mine, theirs = socket.socketpair()
+    with theirs:
+        mine.setblocking(False)
+        it, frames = Connection(of_all, "it"), 1 << 16
+        await asyncio.get_running_loop().create_connection(lambda: it, sock=mine)
+        it.unanswered += frames + 1
+        it.answered([ANSWER] * frames)
+        of_all.lose_all("not serving")
+        it.answered([ANSWER])
+        until = asyncio.get_running_loop().time() + SECONDS
+        while of_all.all and asyncio.get_running_loop().time() < until:
+            await asyncio.sleep(0.2)
+            of_all.look()
+    return f"{len(of_all.all)} connections, {metrics.dropped} answers dropped"
+
+
+class Closing(asyncio.Transport):
+    """A line over which nobody says that it has ended. It counts how often it is closed."""
+
+    closed = 0
+
+    def is_closing(self) -> bool:
+        return self.closed > 0
+
+    def close(self) -> None:
+        self.closed += 1
+
+    def pause_reading(self) -> None:
+        pass
+
+
+def closed() -> Iterator[str]:
+    """How often a connection is closed that is lost, and lost and ended again."""
+    waiting, metrics, log = Waiting(), Metrics(), Log()
+    of_all, line = Connections(Limits(), waiting, metrics, log), Closing()
+    Connection(of_all, "it").connection_made(line)
+    for _ in range(2):
+        of_all.lose_all("not serving")
+        of_all.end_all("stop")
+    yield f"closed {line.closed} times"
+
+
+# Sockets
+
+
+class Bound:
+    """In the place of a socket that listens at an address."""
+
+    family = socket.AF_INET
+
+    def __init__(self, host: str) -> None:
+        self.host = host
+
+    def getsockname(self) -> tuple[str, int]:
+        return self.host, 7000
+
+
+def reached() -> Iterator[str]:
+    """Which addresses no other machine reaches; and how it is noticed that a client is gone."""
+    places: Any = [Bound(it) for it in ("127.0.0.1", "127.8.8.8", "::1", "0.0.0.0", "::", "10.0.0.11",
+                                        "169.254.1.1", "192.168.1.1", "203.0.113.1", "fe80::1%lo", "fd00::1")]
+    yield " ".join(it.host for it in places if is_local(it))
+    with socket.socket() as taken:
+        prepare(taken, 1 << 16)
+        options = (socket.TCP_KEEPIDLE, socket.TCP_KEEPINTVL, socket.TCP_KEEPCNT)
+        seconds = [taken.getsockopt(socket.IPPROTO_TCP, it) for it in options]
+        yield f"{taken.getsockopt(socket.SOL_SOCKET, socket.SO_KEEPALIVE)} {seconds}"
+
+
 # A connection to the database that ends as soon as it is open
 
 
@@ -171,6 +251,18 @@ async def lanes() -> str:
     it = book.BookService(Database((), True, 1), module, with_all, with_all.metrics, with_all.log)
     await asyncio.wait_for(it.run(), SECONDS)
     return f"opened {len(opened)}, closed {module.closed}"
+
+
+# What a server says while it settles
+
+
+def heard() -> Iterator[str]:
+    """Which messages of a server, which speaks another language, tell that its wait was cancelled."""
+    with_all, connection = exchange(), Mock()
+    for own, english in (("WARNUNG", "WARNING"), ("HINWEIS", "NOTICE")):
+        lane = Lane(connection, True, Module.__new__(Module), Counts(), with_all.log)
+        lane.hear(connection, SimpleNamespace(severity=own, severity_en=english))
+        yield f"{own}: {lane.has_warned}"
 
 
 # A watch that meets a fault that nobody foresaw
@@ -245,51 +337,6 @@ async def places() -> str:
     return "; ".join(told).replace("opened other", "opened one")
 
 
-# Answers that come behind the loss of their connection
-
-
-async def late() -> str:
-    """How many connections are left of a client that reads nothing, behind the time for its last answers."""
-    waiting, metrics, log = Waiting(), Metrics(), Log()
-    with_all = Connections(Limits(closing=0.05), waiting, metrics, log)
-    it = Connection(with_all, "a client")
-    mine, theirs = socket.socketpair()
-    with mine:
-        await asyncio.get_running_loop().connect_accepted_socket(lambda: it, theirs)
-        mine.sendall(FRAME * 2)
-        while it.unanswered < 2:
-            await asyncio.sleep(0.001)
-        it.transport.write(bytes(1 << 22))
-        with_all.lose_all("not serving")
-        it.answered([ANSWER] * 2)
-        await asyncio.sleep(0.1)
-        with_all.look()
-        await asyncio.sleep(0.01)
-    return f"{len(with_all.all)} left, {metrics.dropped} dropped"
-
-
-# A state that cannot be written
-
-
-def state() -> Iterator[str]:
-    """What it says behind a write that fails, and behind each that does not."""
-    kept, writes = State(Path("journal")), os.pwrite
-    kept.keep(Held.RUNNING)
-
-    def fails(*_: object) -> int:
-        raise OSError("no space")
-
-    setattr(os, "pwrite", fails)
-    try:
-        kept.keep(Held.FAILED)
-    except OSError as why:
-        yield f"{why}: {kept.held().value}"
-    setattr(os, "pwrite", writes)
-    for held in (Held.FAILED, Held.RUNNING, Held.NOTHING):
-        kept.keep(held)
-        yield kept.held().value
-
-
 # What has keys
 
 
@@ -344,9 +391,9 @@ def wiped() -> Iterator[str]:
 
 
 WHAT: dict[str, Callable[[], Iterator[str]]] = {
-    "entering": entering, "lanes": lambda: iter([asyncio.run(lanes())]), "wiped": wiped,
-    "watched": lambda: iter([asyncio.run(watched())]), "places": lambda: iter([asyncio.run(places())]),
-    "late": lambda: iter([asyncio.run(late())]), "state": state}
+    "entering": entering, "reached": reached, "closed": closed, "unread": lambda: iter([asyncio.run(unread())]),
+    "lanes": lambda: iter([asyncio.run(lanes())]), "heard": heard, "wiped": wiped,
+    "watched": lambda: iter([asyncio.run(watched())]), "places": lambda: iter([asyncio.run(places())])}
 
 
 def main(words: Sequence[str]) -> None:
