@@ -91,7 +91,7 @@ candidate_says laws keys decides frame (candidate.Reversal reversal) (settled.Pa
 -- ---- what is answered
 
 -- what uses the number of a candidate has a transaction key
-key_of_candidate : (keys : HsmKeys) (decides : Decision) (frame : List ℕ) (it : Candidate) (settled : Settled) → IsCandidate keys decides frame it
+pub key_of_candidate : (keys : HsmKeys) (decides : Decision) (frame : List ℕ) (it : Candidate) (settled : Settled) → IsCandidate keys decides frame it
     → IsOfCandidate it settled → HasTransactionKey keys (number_in settled)
 key_of_candidate keys decides frame (candidate.Payment purchase code) (settled.Payment same settlement) is of =
     let asked = is.0 in

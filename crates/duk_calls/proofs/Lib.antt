@@ -6,3 +6,5 @@ pub mod HostPlaces
 pub mod Marked
 pub mod FramesInPlaces
 pub mod HostSteps
+pub mod AskedAgain
+pub mod NeverBoth

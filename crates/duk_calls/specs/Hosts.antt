@@ -192,6 +192,17 @@ marked (settled.Payment purchase settlement) = marked_at 16 code_text settlement
 marked (settled.Reversal reversal settlement) =
     marked_at 30 (λ state. state_byte state ∷ []) settlement
 
+-- what becomes of it when it is asked once more: what was kept is known again from then on
+abbrev pub known_again : {T : Type 0} → Settlement T → Settlement T
+known_again (Kept outcome) = KnownAgain outcome
+known_again settlement = settlement
+
+abbrev pub asked_again : Settled → Settled
+asked_again (settled.Payment purchase settlement) =
+    settled.Payment purchase (known_again settlement)
+asked_again (settled.Reversal reversal settlement) =
+    settled.Reversal reversal (known_again settlement)
+
 -- the 64 bytes say nothing that was settled
 abbrev pub SaysNothing : List ℕ → Type 0
 SaysNothing said = (settled : Settled) → ¬ SaysSettled said settled

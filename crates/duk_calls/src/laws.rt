@@ -16,12 +16,13 @@ ghost use Rattle.duk_journal_host.specs.declared.settlement.Settled.{Settled};
 ghost use Rattle.duk_journal_host.specs.declared.settlement.Settled.TheVariants as settled;
 ghost use Rattle.duk_journal_host.specs.declared.settlement.Settlement.TheVariants.{Kept};
 ghost use Rattle.duk_calls.specs.Answer.{part_at};
-ghost use Rattle.duk_calls.specs.Hosts.{BeginsWithAnswer, HoldsAnswers, HoldsJudgements, SaysAnswer, SaysJudgement, SaysSettled, candidate_bytes, decision_of, marked, padded, with_at};
+ghost use Rattle.duk_calls.specs.Hosts.{BeginsWithAnswer, HoldsAnswers, HoldsJudgements, SaysAnswer, SaysJudgement, SaysSettled, asked_again, candidate_bytes, decision_of, marked, padded, with_at};
 ghost use Rattle.duk_calls.specs.Modules.{IsModule};
 ghost use Rattle.duk_calls.specs.Requests.{front_frame};
 
 /// What a frame is judged to be begins with a zero exactly where it is refused whatever a book keeps,
-/// with the frame that stands there. Else it is the bytes of a candidate.
+/// with the frame that stands there. Else it is the bytes of a candidate. No frame is both, whatever
+/// the issuers say that one host or another asks.
 pub fn judgements()
     ensures dismissed { (keys : HsmKeys) (decides : Decision) (frame said : List ℕ)
         → SaysJudgement keys decides frame said → slice_index_or said 0 0 ≡ 0
@@ -30,9 +31,14 @@ pub fn judgements()
         → SaysJudgement keys decides frame said → slice_index_or said 0 0 ≢ 0
         → (candidate : Candidate) × IsCandidate keys decides frame candidate
         × (said ≡ padded (candidate_bytes candidate)) }
+    ensures apart { (keys : HsmKeys) (decides others : Decision) (frame said : List ℕ)
+        → (candidate : Candidate) → IsCandidate keys decides frame candidate
+        → SaysJudgement keys others frame said → slice_index_or said 0 0 ≢ 0 }
 {
     duk_mac::laws::retail_is_a_block();
     duk_tree::laws::serials();
+    duk_journal_host::laws::steps();
+    duk_journal_host::laws::one_judgement();
 }
 
 /// A candidate that is marked with what became of it says that. Bytes say at most one thing that was
@@ -53,13 +59,21 @@ pub fn settlements()
 }
 
 /// What is answered to a candidate that is marked with what became of it is the frame that answers
-/// that, and never a fault.
+/// that, and never a fault. A payment or reversal that is known again has the bytes that it had when it
+/// was kept, whatever code another host decided for it meanwhile.
 pub fn answers()
-    ensures { (keys : HsmKeys) (decides : Decision) (frame answer : List ℕ)
+    ensures answered { (keys : HsmKeys) (decides : Decision) (frame answer : List ℕ)
         → (candidate : Candidate) (settled : Settled)
         → IsCandidate keys decides frame candidate → IsOfCandidate candidate settled
         → SaysAnswer keys (marked settled (padded (candidate_bytes candidate))) answer
         → BeginsWithAnswer keys settled answer }
+    ensures known_again { (keys : HsmKeys) (decides others : Decision) (frame : List ℕ)
+        → (first later : List ℕ) (candidate other : Candidate) (settled : Settled)
+        → IsCandidate keys decides frame candidate → IsOfCandidate candidate settled
+        → IsCandidate keys others frame other → IsOfCandidate other (asked_again settled)
+        → SaysAnswer keys (marked settled (padded (candidate_bytes candidate))) first
+        → SaysAnswer keys (marked (asked_again settled) (padded (candidate_bytes other))) later
+        → later ≡ first }
 {
     duk_mac::laws::retail_is_a_block();
     duk_tree::laws::serials();
@@ -75,14 +89,15 @@ pub fn one_set_of_keys()
     duk_block::laws::no_fault();
 }
 
-/// `host_judge`, a book, and `host_answer` with the same image: a frame that is judged to be a
-/// candidate, and is marked at any place with what became of it, is answered there with the frame that
-/// answers that.
+/// `host_judge`, a book, and `host_answer` with the same image, or with two that have the same keys: a
+/// frame that is judged to be a candidate, and is marked at any place with what became of it, is
+/// answered there with the frame that answers that.
 pub fn two_calls()
-    ensures { (image cards frames old judged said others new : List ℕ) (i j : ℕ)
-        → (candidate : Candidate) (settled : Settled) → All (λ byte. byte < 2 ^ 8) image
+    ensures { (image other cards frames old judged said others new : List ℕ) (i j : ℕ)
+        → (candidate : Candidate) (settled : Settled) → All (λ byte. byte < 2 ^ 8) other
         → (judging : HoldsJudgements image cards frames old judged)
-        → HoldsAnswers image said others new → j < length said / 64
+        → IsModule other judging.keys
+        → HoldsAnswers other said others new → j < length said / 64
         → IsCandidate judging.keys (decision_of judging.zone cards)
         (front_frame (part_at 64 frames i)) candidate
         → part_at 64 judged i ≡ padded (candidate_bytes candidate)
