@@ -70,7 +70,8 @@ class Service:
         held, failures, is_up = self.state.held(), 0, False
         while not self.stopping.is_set():
             if held is Held.FAILED:
-                raise Refused(f"the journal failed: see to it, and remove {self.state.path}")
+                raise Refused("the journal failed: put a checked copy in its place, and then remove"
+                              f" {self.state.path}")
             if held is Held.RUNNING:
                 await self.recover()
             has_answered, end = await self.serve_once()
