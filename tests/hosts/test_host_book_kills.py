@@ -67,6 +67,8 @@ class Kills(BookCase):
             self.assertEqual(it.sql("select sum(amount) from dukpt.standing"),
                              str(sum(books_of(added).values())))
         for host in self.hosts:
+            # One that was started last does not heed a signal yet.
+            host.told("listening on")
             self.assertEqual(host.stop(), 0)
         self.assertGreater(len(faults), 0, "there was no fault")
         self.tells(f"{len(faults)} faults, {self.asked_again} asked again")
