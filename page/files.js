@@ -9,8 +9,7 @@ import { guessed } from "./file_kinds.js";
 import { damageOfImage, damageOfLog, pastOf } from "./file_parts.js";
 import { givenKey, initialKeyBy } from "./frames.js";
 import { hex } from "./hexadecimal.js";
-import { journalParts } from "./journal.js";
-import { damageOfJournal } from "./journal_parts.js";
+import { damageOfJournal, journalParts } from "./journal_header.js";
 import { logParts } from "./log.js";
 import { fillRegisters, nextCounter, registerName, registersOf } from "./registers.js";
 

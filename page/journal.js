@@ -54,8 +54,8 @@ function counted(payments, reversals) {
   return reversals ? `${payments} payments and ${reversals} reversals` : `${payments} payments`;
 }
 
-/** What is shown of a right journal: at most so many entries, and as many sums. */
-export function journalParts(journal, most) {
+/** What is shown of right records: at most so many entries, and as many sums. */
+export function journalRows(journal, most) {
   const { entries, groups, count } = entriesIn(journal, most);
   const records = journal.length / RECORD;
   const { numbers, reversed, ...owned } = numbersIn(journal, count);

@@ -1,5 +1,5 @@
-// Journals: the first byte that breaks a rule, and the entries, which are payments and reversals
-// (docs/FORMATS.md, "Disk of a journal"). A check answers with words, the first and the last byte, or
+// The records of a journal, as version 1 has them: the first byte that breaks a rule, and the entries,
+// which are payments and reversals (docs/FORMATS.md, "Version 1 of a journal"). A check answers with words, the first and the last byte, or
 // with nothing. The first byte stands in the record at which `show journal` refuses the file.
 import { SPENT, counterOf, isUsable, withCounter } from "./counters.js";
 import { CODES, STATES } from "./frame_parts.js";
@@ -89,16 +89,20 @@ export function entriesIn(journal, most) {
 /** Where the whole records end. */
 const wholeOf = (journal) => journal.length - journal.length % RECORD;
 
-/** What is wrong with a journal, at its first wrong record: also one that is missing or cut off. */
-export function damageOfJournal(journal) {
+/**
+ * What is wrong with records, at the first wrong one: also one that is missing or cut off, or that there
+ * is none. The words say what stands at the end of a record.
+ */
+export function damageOfRecords(journal, ending, isNone) {
   let end = 0;
   let damage;
   while (!damage && end < wholeOf(journal) && journal[end] === OPEN) {
-    damage = damageOfGroup(journal, end);
+    damage = damageOfGroup(journal, end, ending);
     if (!damage) end += RECORD * (followersAt(journal, end) + 1);
   }
   const count = damage ? Math.floor(damage[1] / RECORD) : end / RECORD;
-  return repeatIn(journal, count) ?? damage ?? damageBehind(journal, end) ?? damageOfSize(journal);
+  return repeatIn(journal, count) ?? damage ?? damageBehind(journal, end)
+    ?? damageOfSize(journal, isNone);
 }
 
 /** That one of the first entries, so many, has a number that was used before it. */
@@ -113,17 +117,17 @@ function repeatIn(journal, count) {
 }
 
 /** That there is no record, or that the last one is cut off. */
-function damageOfSize(journal) {
+function damageOfSize(journal, isNone) {
   const whole = wholeOf(journal);
-  if (journal.length && journal.length === whole) return undefined;
+  if (!isNone && journal.length === whole) return undefined;
   return [`a journal has whole records of 32 bytes, and here are ${journal.length} bytes`,
     whole, Math.max(journal.length - 1, whole)];
 }
 
 /** What is wrong with the group whose first record stands here. */
-function damageOfGroup(journal, head) {
+function damageOfGroup(journal, head, ending) {
   const followers = followersAt(journal, head);
-  const damage = damageOfRecord(journal, head, () => wrongCount(followers));
+  const damage = damageOfRecord(journal, head, ending, () => wrongCount(followers));
   if (damage) return damage;
   for (let at = head + RECORD; at <= head + RECORD * followers; at += RECORD) {
     if (at === wholeOf(journal)) {
@@ -135,7 +139,8 @@ function damageOfGroup(journal, head) {
       const words = `is open, and stands inside the group of record ${head / RECORD}`;
       return [`record ${at / RECORD} ${words}`, at, at];
     }
-    const other = damageOfRecord(journal, at, () => wrongFollower(followersAt(journal, at)));
+    const other = damageOfRecord(
+      journal, at, ending, () => wrongFollower(followersAt(journal, at)));
     if (other) return other;
   }
   return undefined;
@@ -153,7 +158,7 @@ function wrongFollower(followers) {
 }
 
 /** What is wrong behind the gate of an entry's record; `wrong` says what is with its followers. */
-function damageOfRecord(journal, at, wrong) {
+function damageOfRecord(journal, at, ending, wrong) {
   const found = (words, first, last = first) =>
     [`record ${at / RECORD} ${words}`, at + first, at + last];
   const kind = KINDS[journal[at + KIND]];
@@ -172,7 +177,7 @@ function damageOfRecord(journal, at, wrong) {
     return found(`has ${kind.outcome} ${journal[at + OUTCOME]}, and not ${kind.all}`, OUTCOME);
   }
   for (let place = ZEROS; place < RECORD; place += 1) {
-    if (journal[at + place]) return found(`has ${kind.name}, and lacks its zeros`, place);
+    if (journal[at + place]) return found(`has ${kind.name}, and lacks ${ending}`, place);
   }
   return undefined;
 }

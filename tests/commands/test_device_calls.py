@@ -84,12 +84,10 @@ class Device:
 
     def look_at(self, kept: int, record: int) -> None:
         """Pieces are read from the end on, until one has a byte that is not zero. From there on the last
-        open record is looked for, of a journal how many follow it in its group, and the last with a gate."""
+        open record is looked for, and the last with a gate."""
         self.read_back(self.size, kept * record)
         if kept:
             self.read_back(kept * record, kept * record)
-            if record == RECORD:
-                self.read((kept - 1) * record + 2, (kept - 1) * record + 4)
             self.read_back(kept * record, kept * record)
 
     def read_back(self, end: int, wanted: int) -> None:
@@ -119,10 +117,22 @@ class Device:
             self.write(first, end)
             self.sync()
 
+    def look_at_journal(self, kept: int) -> None:
+        """The header is read; then as of a log, but that of the last open record, where that is not the
+        header, it is read how many follow it in its group."""
+        front = RECORD * (1 + kept)
+        self.read(0, RECORD)
+        self.read_back(self.size, front)
+        self.read_back(front, front)
+        if kept:
+            self.read(RECORD * kept + 2, RECORD * kept + 4)
+        self.read_back(front, front)
+
     def start_journal(self) -> None:
-        """All records are read once, in pieces."""
+        """The header is read, and then all records once, in pieces."""
         self.sync()
-        self.read(0, self.size)
+        self.read(0, RECORD)
+        self.read(RECORD, self.size)
 
     def begin(self) -> None:
         """A file that is made begins as no journal does before it gets its size."""
@@ -134,13 +144,12 @@ class Device:
         self.steps.append(f"ftruncate {self.name} {self.size}")
         self.sync()
 
-    def finish_empty(self) -> None:
-        """What was written is read at its front, and the first byte is written last."""
+    def finish_journal(self) -> None:
+        """What was written is read at its front, and the second byte is written last."""
         self.sync()
         self.read(0, 2)
-        self.write(0, 1)
+        self.write(1, 2)
         self.sync()
-        self.read(1, 2)
 
 
 class OneByOne(Device):
@@ -204,13 +213,13 @@ class DeviceCalls(JournalCase):
             requests = payments(kept + 2)
             self.make_journal(room, alone(payments_of_all(requests[:kept])))
             steps = read_whole("bank.toml", len(BANK))
-            journal = Device(steps, "journal", RECORD * room)
-            journal.look_at(kept, RECORD)
+            journal = Device(steps, "journal", RECORD * (1 + room))
+            journal.look_at_journal(kept)
             journal.start_journal()
-            for place in (kept, kept + 1):
+            for place in (1 + kept, 1 + kept + 1):
                 journal.write(RECORD * place + 1, RECORD * place + RECORD)
             journal.sync()
-            journal.write(RECORD * kept, RECORD * kept + 1)
+            journal.write(RECORD * (1 + kept), RECORD * (1 + kept) + 1)
             journal.sync()
             self.check(["serve", "bank.toml", "--journal", "journal"], "bank.toml", steps,
                        stream_of(requests[kept:]), f"{kept} of {room}")
@@ -269,9 +278,8 @@ class DeviceCalls(JournalCase):
             steps: list[str] = []
             made = Device(steps, COPY, NUMBER * records, MADE)
             made.lengthen()
-            made.write(2, NUMBER * records)
+            made.write(0, NUMBER * records)
             made.sync()
-            made.read(0, 2)
             self.make("journal", b"")
             self.check(["new-log", COPY, str(records)], COPY, [*steps, *folder_synced()])
 
@@ -289,10 +297,11 @@ class DeviceCalls(JournalCase):
     def test_new_journal(self) -> None:
         for records in (1, 7, 5000):
             steps: list[str] = []
-            made = Device(steps, "copy", RECORD * records, MADE)
+            made = Device(steps, "copy", RECORD * (1 + records), MADE)
             made.begin()
-            made.write(2, RECORD * records)
-            made.finish_empty()
+            made.write(2, RECORD)
+            made.write(RECORD, RECORD * (1 + records))
+            made.finish_journal()
             self.make("journal", b"")
             self.check(["new-journal", "copy", str(records)], "copy", [*steps, *folder_synced()])
 
@@ -308,7 +317,8 @@ class DeviceCalls(JournalCase):
             self.make("log", log_image(numbers_of(payments(kept)), room))
             self.check(["show", "log", "log"], "log", read_whole("log", NUMBER * room))
             self.make_journal(room, alone(payments_of_all(payments(kept))))
-            self.check(["show", "journal", "journal"], "journal", read_whole("journal", RECORD * room))
+            self.check(["show", "journal", "journal"], "journal",
+                       read_whole("journal", RECORD * (1 + room)))
 
     def test_run(self) -> None:
         """Its stores are in memory."""
@@ -322,27 +332,23 @@ class DeviceCalls(JournalCase):
 
 
 def copied(kept: int, room: int) -> list[str]:
-    """The journal is looked at and checked before the copy is made, and the copy before its folder is synced. What the
-    journal keeps is read and written in pieces behind the first two bytes, and zeros behind it."""
+    """The journal is looked at and checked before the copy is made, and the copy before its folder is
+    synced. What the journal keeps is read and written in pieces behind the header, of which the first
+    two bytes are written last, and zeros behind it."""
     steps: list[str] = []
-    old = Device(steps, "journal", RECORD * room, "O_RDONLY")
-    old.look_at(kept, RECORD)
+    size, end = RECORD * (1 + room), RECORD * (1 + kept)
+    old = Device(steps, "journal", size, "O_RDONLY")
+    old.look_at_journal(kept)
     old.start_journal()
-    new = Device(steps, "copy", RECORD * room, MADE)
+    new = Device(steps, "copy", size, MADE)
     new.begin()
-    old.read(0, 2)
-    for at in range(2, RECORD * kept, PIECE):
-        end = min(at + PIECE, RECORD * kept)
-        old.read(at, end)
-        new.write(at, end)
-    new.write(max(2, RECORD * kept), RECORD * room)
-    if kept:
-        new.sync()
-        new.read(0, 2)
-        new.write(1, 2)
-        new.sync()
-    else:
-        new.finish_empty()
+    old.read(0, RECORD)
+    new.write(2, RECORD)
+    for at in range(RECORD, end, PIECE):
+        old.read(at, min(at + PIECE, end))
+        new.write(at, min(at + PIECE, end))
+    new.write(end, size)
+    new.finish_journal()
     new.start_journal()
     return [*steps, *folder_synced()]
 

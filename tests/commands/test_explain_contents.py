@@ -13,6 +13,7 @@ from ..support.commands.explained import Asked, Facts, damaged_record, explained
 from ..support.commands.issuing import bytes_of, numbers_from
 from ..support.commands.shown import journal_ended
 from ..support.formats import journal_records, left_files
+from ..support.formats.checked_journal import HEADER, blank, checked, journal_of
 from ..support.formats.bank import BANK, BDK, CARD, FRONT
 from ..support.formats.left_files import Records
 from ..support.formats.log_file import RECORD, log_image, record
@@ -224,21 +225,21 @@ class Journals(ExplainCase):
         for damage in journal_records.DAMAGES:
             groups = [[journals.payment(0)], [journals.payment(2 << 21), journals.payment(3 << 21)]]
             image = journal_records.journal_of(groups, 3, self.chance)
-            self.failed(damage(journals, groups, image)[0], damage.__name__)
+            self.failed(checked(damage(journals, groups, image)[0]), damage.__name__)
 
     def test_sizes_and_numbers(self) -> None:
         for size in (0, 1, 31, 33, 32 * 1000 + 5):
             self.failed(bytes(size), f"{size} bytes")
         kept = payments_of_all(payments(3))
-        self.failed(journal_records.journal_of([kept, kept[1:2]], 1), "a number twice")
+        self.failed(journal_of([kept, kept[1:2]], 1), "a number twice")
 
     def test_writes_that_fail(self) -> None:
         """The journal itself is sound then. Its groups were answered up to the limit."""
         requests = payments(3)
         for room in (0, 5, 32, 40):
-            self.write("it", bytes(5 * 32))
+            self.write("it", blank(5))
             service = Service(self.program, self.home, "serve", "bank.toml", "--journal", "it", EXPLAIN,
-                              how=How(limits=Limits(file_size=room)))
+                              how=How(limits=Limits(file_size=HEADER + room)))
             self.addCleanup(service.release)
             service.ask([it.frame for it in requests])
             answers = b"".join(it.answer for it in requests[: room // 32])

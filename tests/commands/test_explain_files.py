@@ -16,8 +16,7 @@ from ..support.commands.explained import (
     A_FOLDER, A_JOURNAL, A_LOG, A_NEW_FILE, IN_USE, MISSING, MOST_PATH, NO_FOLDER, NO_PERMISSION, OTHER,
     READABLE, READ_BEFORE, THERE, told_path)
 from ..support.formats.bank import BANK, LONGEST
-from ..support.formats.journal_records import RECORD as JOURNAL_RECORD
-from ..support.formats.journal_records import journal_of
+from ..support.formats.checked_journal import blank, journal_of
 from ..support.formats.log_file import RECORD, log_image, record
 from ..support.models.model_journal import payments_of_all
 from ..support.program import Ended, Limits, spoken
@@ -153,7 +152,7 @@ class Refused(ExplainCase):
 
     def test_in_use_by_a_service_over_a_journal(self) -> None:
         two = payments(2)
-        self.write("journal", bytes(2 * JOURNAL_RECORD))
+        self.write("journal", blank(2))
         service = Service(self.program, self.home, "serve", "bank.toml", "--journal", "journal", EXPLAIN)
         self.addCleanup(service.release)
         service.ask([two[0].frame])
@@ -237,6 +236,8 @@ class Refused(ExplainCase):
                      f'{way} && exec "$@"', "sh"]
             line = f"/dev/urandom: {reason}; wanted: a device that can be read"
             self.explained([*ISSUE, "ledger"], "padding: cannot read", line, front=front)
+            for words in (["new-journal", "new", "3"], ["copy-journal", "missing", "new"]):
+                self.explained(words, "identity: cannot read", line, front=front)
 
 
 class Names(ExplainCase):

@@ -9,6 +9,7 @@ from pathlib import Path
 from typing import ClassVar
 
 from ..support.formats import journal_records, log_file
+from ..support.formats.checked_journal import HEADER, blank, identity_of
 from ..support.formats.journal_file import DamagedJournal, payments_in
 from ..support.formats.log_file import log_image
 from ..support.program import NO_LIMITS, Ended, Limits
@@ -75,7 +76,7 @@ class StoreCase(JournalCase):
         if not self.made.exists():
             return "absent"
         left = self.made.read_bytes()
-        is_whole = left == bytes(self.record * self.many)
+        is_whole = self.is_blank(left, self.many)
         words = ("serve", "bank.toml", f"--{self.store}", self.made)
         self.check(words, [], b"", "" if is_whole else self.failed, what=what)
         if self.store == "log" and not is_whole:
@@ -91,8 +92,9 @@ class NewStores:
         page = 65_536 // self.record
         for records in ("1", str(page - 1), str(page), str(page + 1), "007", str(34 * page)):
             self.assert_output(self.make(self.store, records), b"", "", records)
-            self.assertEqual(self.file.read_bytes(), bytes(self.record * int(records)), records)
-            self.assertGreaterEqual(512 * self.file.stat().st_blocks, self.record * int(records))
+            made = self.file.read_bytes()
+            self.assertTrue(self.is_blank(made, int(records)), records)
+            self.assertGreaterEqual(512 * self.file.stat().st_blocks, len(made))
             self.file.unlink()
 
     def test_its_owner_alone_may_read_it(self: StoreCase) -> None:
@@ -119,18 +121,17 @@ class NewStores:
 
     def test_limits(self: StoreCase) -> None:
         """A file that may not get its size, which it gets before it is written, is removed again."""
-        for size in (0, 1, self.record - 1, 3 * self.record - 1):
+        for size in (0, 1, self.record - 1, self.size_of(3) - 1):
             self.refuse(self.cannot_make, self.store, "3", Limits(file_size=size))
 
     def test_calls(self: StoreCase) -> None:
-        """It is made, locked, written and synced, and then its folder. Its second byte is zero once it has
-        its size, and so is the first one of a log."""
+        """It is made, locked, written and synced, and then its folder. The first byte of a journal is
+        right once it has its size."""
         for records in (1, self.many):
             ended, calls = self.traced(records)
             self.assert_output(ended, b"", "", "traced")
-            size = self.record * records
-            assert_kept(calls, f"sub/{self.store}", "sub", size, but=self.not_written)
-            self.assertEqual(self.made.read_bytes(), bytes(size))
+            assert_kept(calls, f"sub/{self.store}", "sub", self.size_of(records), but=self.not_written)
+            self.assertTrue(self.is_blank(self.made.read_bytes(), records))
 
     def test_each_call_that_fails(self: StoreCase) -> None:
         """Where it fails, and each later one of its name, no file is left."""
@@ -153,7 +154,13 @@ class NewStores:
 
 
 class NewLogs(NewStores, StoreCase):
-    store, record, many, not_written = "log", log_file.RECORD, 9000, range(2)
+    store, record, many, not_written = "log", log_file.RECORD, 9000, range(0)
+
+    def size_of(self, records: int) -> int:
+        return self.record * records
+
+    def is_blank(self, image: bytes, records: int) -> bool:
+        return image == bytes(self.size_of(records))
 
     def test_a_service_and_a_run_of_issue_over_it(self) -> None:
         self.assert_output(self.make("log", "2"), b"", "", "two numbers")
@@ -169,7 +176,22 @@ class NewLogs(NewStores, StoreCase):
 
 
 class NewJournals(NewStores, StoreCase):
-    store, record, many, not_written = "journal", journal_records.RECORD, 5000, range(1, 2)
+    store, record, many, not_written = "journal", journal_records.RECORD, 5000, range(1)
+
+    def size_of(self, records: int) -> int:
+        return HEADER + self.record * records
+
+    def is_blank(self, image: bytes, records: int) -> bool:
+        identity = identity_of(image)
+        return identity is not None and image == blank(records, identity)
+
+    def test_identities(self) -> None:
+        """Each has another one, of the system's random device."""
+        found = set()
+        for name in ("one", "two", "three"):
+            self.assert_output(self.make(name, "1"), b"", "", name)
+            found.add(identity_of((self.home / name).read_bytes()))
+        self.assertEqual(len(found), 3, found)
 
     def test_a_service_over_it(self) -> None:
         self.assert_output(self.make("journal", "2"), b"", "", "two payments")
@@ -185,14 +207,14 @@ class NewJournals(NewStores, StoreCase):
             small, what = SmallFiles(self.folder(), pages), f"{pages} of {needed} pages"
             self.addCleanup(small.close)
             made = small.folder / "journal"
-            ended = self.make(os.fspath(made), str(needed * PAGE // self.record))
+            ended = self.make(os.fspath(made), str(needed * PAGE // self.record - 1))
             if pages < needed:
                 self.assert_output(ended, b"", self.cannot_make, what)
                 self.assertEqual([*small.folder.iterdir()], [], what)
                 self.assertEqual(small.free(), pages, what)
             else:
                 self.assert_output(ended, b"", "", what)
-                self.assertEqual(made.read_bytes(), bytes(needed * PAGE), what)
+                self.assertTrue(self.is_blank(made.read_bytes(), needed * PAGE // self.record - 1), what)
                 self.assertEqual(small.free(), 0, what)
 
     def test_any_bytes_since_a_sync(self) -> None:
@@ -200,8 +222,9 @@ class NewJournals(NewStores, StoreCase):
         journal then, or keeps nothing: for each value of the byte that is written last, too."""
         found = Counter[str]()
         for records in (1, 3):
-            states = [*unsynced_of(self.traced(records)[1], "sub/journal", bytes(self.record * records))]
-            self.assertEqual(states[-1].spans, (range(1),), "the last write")
+            calls = self.traced(records)[1]
+            states = [*unsynced_of(calls, "sub/journal", self.made.read_bytes())]
+            self.assertEqual(states[-1].spans, (range(1, 2),), "the last write")
             for state in states:
                 for left in state.left(self.chance):
                     found[self.judge_lost(left, f"{records} records: {state}")] += 1

@@ -10,7 +10,8 @@ from ..support.case import ProgramCase
 from ..support.commands.batches import ITEMS_REFUSED
 from ..support.commands.everyday_rows import BASE, FIRST, RIGHT, SERIAL
 from ..support.commands.issuing import Keys, bytes_of, numbers_from, read_lines
-from ..support.formats.journal_records import Payment, journal_of
+from ..support.formats.checked_journal import blank, identity_of, journal_of
+from ..support.formats.journal_records import Payment
 from ..support.formats.log_file import log_image
 from ..support.models.model_journal import payments_of_all
 from ..support.program import SECONDS, Ended, Limits, Word, behind_shell, spoken
@@ -31,6 +32,8 @@ UNKNOWN = 10_000
 # So many items and about as many: fewer than a hundred, a hundredth that is no whole item.
 COUNTS = (1, 2, 99, 100, 101, 199, 200, 201, 250, 1000)
 RECORDS = {"new-log": 16, "new-journal": 32}
+# A header is a record more.
+HEADERS = {"new-log": 0, "new-journal": 1}
 PIECE = 1 << 16
 
 
@@ -288,12 +291,12 @@ class Shown(ProgressCase):
             self.assertEqual(ended.output.count(b"\n"), count + 2)
 
     def test_journals(self) -> None:
-        """Two lines, one for each payment, and one for each terminal."""
-        for count in (1, UNKNOWN // 2 - 2, UNKNOWN // 2 - 1):
+        """Four lines, one for each payment, and one for each terminal."""
+        for count in (1, UNKNOWN // 2 - 3, UNKNOWN // 2 - 2):
             entries = [Payment(FIRST_NUMBER + it * SPENT + 1, it, 0, bytes(8)) for it in range(count)]
             self.keep("journal", journal_of(alone(entries), 1))
-            ended = self.tells_of(["show", "journal", "journal"], told(2 * count + 2))
-            self.assertEqual(ended.output.count(b"\n"), 2 * count + 2)
+            ended = self.tells_of(["show", "journal", "journal"], told(2 * count + 4))
+            self.assertEqual(ended.output.count(b"\n"), 2 * count + 4)
 
     def test_refused(self) -> None:
         self.keep("log", bytes(15))
@@ -302,28 +305,39 @@ class Shown(ProgressCase):
 
 
 class NewFiles(ProgressCase):
-    """The records that are written, of RECORDS."""
+    """The records that are written, of those of the new file."""
+
+    def assert_blank(self, command: str, count: int) -> None:
+        made = self.files()
+        self.assertEqual([*made], ["made"])
+        image = made["made"]
+        identity = identity_of(image) if HEADERS[command] else None
+        wanted = bytes(RECORDS[command] * count) if identity is None else blank(count, identity)
+        self.assertEqual(image, wanted)
 
     def test_records(self) -> None:
         for command, length in RECORDS.items():
             piece = PIECE // length
             for count in (*COUNTS, piece - 1, piece, piece + 1, 3 * piece, 5 * piece + 7):
-                self.tells_of([command, "made", str(count)], told(count, count))
-                self.assertEqual(self.files(), {"made": bytes(length * count)})
+                records = HEADERS[command] + count
+                self.tells_of([command, "made", str(count)], told(records, records))
+                self.assert_blank(command, count)
 
     def test_a_million(self) -> None:
-        for command, length in RECORDS.items():
-            lines = told(1_000_000, 1_000_000)
-            self.assertEqual((len(lines), lines[0]), (100, "progress 10000 of 1000000"))
-            self.tells_of([command, "made", "01000000"], lines)
-            self.assertEqual(self.files(), {"made": bytes(length * 1_000_000)})
+        lines = told(1_000_000, 1_000_000)
+        self.assertEqual((len(lines), lines[0]), (100, "progress 10000 of 1000000"))
+        for command in RECORDS:
+            count = 1_000_000 - HEADERS[command]
+            self.tells_of([command, "made", f"0{count}"], lines)
+            self.assert_blank(command, count)
 
     def test_by_reference(self) -> None:
         """The file that is made tells how many there are."""
         self.keep("count", b"7\n")
-        for command in RECORDS:
-            self.tells_of([command, "made", "@count"], told(7, 7))
-            self.tells_of([command, "made", "@-"], told(7, 7), given=b"7\n")
+        for command, headers in HEADERS.items():
+            lines = told(7 + headers, 7 + headers)
+            self.tells_of([command, "made", "@count"], lines)
+            self.tells_of([command, "made", "@-"], lines, given=b"7\n")
 
     def test_refused(self) -> None:
         self.keep("there", b"something")
@@ -339,8 +353,8 @@ class NewFiles(ProgressCase):
         self.addCleanup(small.close)
         made = small.folder / "made"
         # A piece more would take more room than there is.
-        done = (pages * PAGE // PIECE * PIECE + 2) // 32
-        words = self.asked(["new-journal", os.fspath(made), str(records)])
+        done = ((pages * PAGE - 32) // PIECE * PIECE + 32) // 32
+        words = self.asked(["new-journal", os.fspath(made), str(records - 1)])
         faults = faults_of([*told(done, records), "journal: cannot make"])
         self.assert_ended(self.program.run(*words), 1, b"", faults, spoken(words))
         self.assertEqual([*small.folder.iterdir()], [])
@@ -355,8 +369,11 @@ class Copies(ProgressCase):
         for kept, room in ((0, 1), (1, 1), (0, 300), (150, 300), (2047, 2048), (2048, 2048), (2048, 2049),
                            (4100, 9000)):
             self.keep("journal", journal_of(alone(made[:kept]), room - kept))
-            self.tells_of(["copy-journal", "journal", "copy"], told(room, room))
-            self.assertEqual(self.files()["copy"], self.kept["journal"])
+            self.tells_of(["copy-journal", "journal", "copy"], told(1 + room, 1 + room))
+            identity = identity_of(self.files()["copy"])
+            assert identity is not None
+            self.assertEqual(self.files()["copy"],
+                             journal_of(alone(made[:kept]), room - kept, identity=identity))
 
     def test_refused(self) -> None:
         self.keep("journal", journal_of(alone(payments_of_all(payments(2))), 2))
@@ -369,12 +386,12 @@ class Copies(ProgressCase):
         pages, records = 40, 64 * PAGE // 32
         small = SmallFiles(self.folder(), pages)
         self.addCleanup(small.close)
-        self.keep("journal", journal_of(alone(payments_of_all(payments(3))), records - 3))
+        self.keep("journal", journal_of(alone(payments_of_all(payments(3))), records - 4))
         self.begin()
         copy = small.folder / "copy"
         ended = self.program.run("copy-journal", "journal", os.fspath(copy), PROGRESS, folder=self.home)
         # The records that are kept are a piece of their own.
-        done = ((pages * PAGE - 96) // PIECE * PIECE + 96) // 32
+        done = ((pages * PAGE - 128) // PIECE * PIECE + 128) // 32
         faults = faults_of([*told(done, records), "journal: cannot make"])
         self.assert_ended(ended, 1, b"", faults, "a full file system")
         self.assertEqual([*small.folder.iterdir()], [])

@@ -3,14 +3,17 @@ docs/FORMATS.md has them."""
 from __future__ import annotations
 
 import os
+import re
 from collections import Counter
 
 from ..support.case import ProgramCase
 from ..support.commands.shown import journal_ended
+from ..support.formats.checked_journal import IDENTITY, checked, header_of
+from ..support.formats.checked_journal import journal_of as journal_of_two
 from ..support.formats.journal_records import (
     BY_HAND, DAMAGES, NONE_STANDS, OPEN, RECORD, UNDONE, Journals, Payment, Reversal, journal_of,
     scratched)
-from ..support.program import spoken
+from ..support.program import ROOT, spoken
 from ..support.quick import QuickRuns
 from ..support.standards.dukpt import iksn_of
 
@@ -49,6 +52,10 @@ def paid(serial: int, amount: int = 1, code: int = 0) -> Payment:
     return Payment(serial, amount, code, bytes(8))
 
 
+def flipped(image: bytes, at: int) -> bytes:
+    return image[:at] + bytes([image[at] ^ 0x40]) + image[at + 1 :]
+
+
 def undone(serial: int, counter: int, state: int = UNDONE) -> Reversal:
     """Of the number with this counter, of the same terminal."""
     return Reversal(serial, iksn_of(serial) + counter, state, bytes(8))
@@ -62,17 +69,22 @@ class JournalCase(ProgramCase):
         self.home = self.folder()
 
     def prints(self, text: str, data: bytes) -> None:
-        (self.home / "journal").write_bytes(data)
-        found = self.program.run("show", "journal", "journal", folder=self.home)
-        self.assert_ended(found, 0, text.encode(), b"", data.hex())
+        """Of version 1; and of version 2 with two lines in front."""
+        front = f"version 2\nidentity {IDENTITY:016X}\n"
+        for image, wanted in ((data, text), (checked(data), front + text)):
+            (self.home / "journal").write_bytes(image)
+            found = self.program.run("show", "journal", "journal", folder=self.home)
+            self.assert_ended(found, 0, wanted.encode(), b"", image.hex())
 
     def refuses(self, line: str, what: str) -> None:
         found = self.program.run("show", "journal", what, folder=self.home)
         self.assert_ended(found, 1, b"", f"{line}\n".encode(), spoken(["show", "journal", what]))
 
     def damaged(self, place: int, data: bytes) -> None:
-        (self.home / "journal").write_bytes(data)
-        self.refuses(f"journal refused at {place}: Damaged", "journal")
+        """Of either version: a header alone is a journal, and no byte is none."""
+        for image in (data, checked(data) if data else b""):
+            (self.home / "journal").write_bytes(image)
+            self.refuses(f"journal refused at {place}: Damaged", "journal")
 
 
 class Rows(JournalCase):
@@ -83,6 +95,27 @@ class Rows(JournalCase):
 
     def test_none(self) -> None:
         self.prints("payments 0\nroom 2\n", bytes(2 * RECORD))
+
+    def test_a_header_alone(self) -> None:
+        (self.home / "journal").write_bytes(header_of(1))
+        found = self.program.run("show", "journal", "journal", folder=self.home)
+        lines = b"version 2\nidentity 0000000000000001\npayments 0\nroom 0\n"
+        self.assert_ended(found, 0, lines, b"", "a header alone")
+
+    def test_changed_bytes(self) -> None:
+        """A change of a byte that is kept, of which the check sum is not changed, and a header that is
+        none."""
+        image = journal_of_two([[paid(FIRST)], [paid(FIRST + 1)]], 1)
+        for at in range(RECORD):
+            (self.home / "journal").write_bytes(flipped(image, at))
+            # Without its gate the first record is a closed one of version 1, with an open one behind it.
+            self.refuses(f"journal refused at {0 if at else 1}: Damaged", "journal")
+            (self.home / "journal").write_bytes(flipped(image, 2 * RECORD + at))
+            found = self.program.run("show", "journal", "journal", folder=self.home)
+            if at:
+                self.assert_ended(found, 1, b"", b"journal refused at 1: Damaged\n", f"byte {at}")
+            else:
+                self.assertIn(b"payments 1\n", found.output, "the gate of the last is closed")
 
     def test_sums(self) -> None:
         """Of the approved amounts alone, beyond 32 bits."""
@@ -143,6 +176,23 @@ class Rows(JournalCase):
         self.refuses("journal: cannot read", "/proc/self/mem")
 
 
+class Documented(JournalCase):
+    """The example of docs/FORMATS.md, byte by byte."""
+
+    def test_its_bytes(self) -> None:
+        text = (ROOT / "docs" / "FORMATS.md").read_text()
+        part = text.partition("### A journal byte by byte\n")[2].partition("### Version 1")[0]
+        image = bytes.fromhex("".join(re.findall(r"^\| \d \| ([0-9A-F ]+) \|$", part, re.MULTILINE)))
+        groups = [[Payment(FIRST, 1, 0, bytes.fromhex("A05619896B683F13"))],
+                  [Payment(FIRST + 7, 1234, 51, bytes.fromhex("0102030405060708")),
+                   Reversal(FIRST + 1, FIRST, UNDONE, bytes.fromhex("1112131415161718"))]]
+        self.assertEqual(image, journal_of_two(groups, 1))
+        (self.home / "journal").write_bytes(image)
+        ended = self.program.run("show", "journal", "journal", folder=self.home)
+        self.assertEqual(ended, journal_ended(image))
+        self.assertTrue(ended.output.startswith(b"version 2\nidentity 0123456789ABCDEF\npayment 0 group 0 "))
+
+
 class Random(JournalCase):
     """Each line, each place; damaged or not, the file is as before."""
 
@@ -162,6 +212,8 @@ class Random(JournalCase):
                 elif chance.random() < 0.2:
                     # What stands behind closed records would be a journal by itself.
                     data += journals.journal(chance.randrange(3))[1]
+                if chance.random() < 0.5:
+                    data = checked(data, chance.getrandbits(64))
                 path.write_bytes(data)
                 wanted = journal_ended(data)
                 found = runs.run([b"show", b"journal", os.fsencode(path)])

@@ -272,7 +272,7 @@ class Killed(HostCase):
         somebody has seen to the journal."""
         given = payments(30)
         self.make_journal(100)
-        limits = Limits(file_size=32 * 10 + 1)
+        limits = Limits(file_size=32 * (1 + 10) + 1)
         host = self.start_host(prepare=limits.prepare())
         client = self.connect(host)
         found = [client.ask(it.frame) for it in given]

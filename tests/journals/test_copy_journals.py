@@ -6,11 +6,15 @@ import fcntl
 import os
 from pathlib import Path
 
-from ..support.formats.journal_file import DamagedJournal, entries_in, payments_in
+from ..support.formats.checked_journal import (
+    HEADER, checked, identity_of, plain_of, read_entries)
+from ..support.formats.journal_file import (
+    DamagedJournal, demand_new_numbers, entries_in, payments_in)
 from ..support.formats.journal_records import (
-    BY_HAND, DAMAGES, NONE_STANDS, RECORD, UNDONE, Entry, Journals, Payment, Reversal, journal_of,
-    read_entries, scratched)
-from ..support.formats.left_files import JOURNAL
+    BY_HAND, DAMAGES, NONE_STANDS, OPEN, RECORD, UNDONE, Entry, Journals, Payment, Place, Reversal,
+    Row, journal_of, scratched)
+from ..support.formats.journal_records import read_entries as read_old_entries
+from ..support.formats.left_files import JOURNAL, OLD_JOURNAL
 from ..support.models.model_journal import payments_of_all
 from ..support.program import NO_LIMITS, Ended, Limits
 from ..support.quick import QuickRuns
@@ -23,19 +27,42 @@ CANNOT_MAKE = "journal: cannot make"
 ON_COPY = (*ON_JOURNAL[:3], "copy")
 
 
-def copied(image: bytes) -> bytes:
-    """What a copy of a journal is: the records that it keeps, and zeros."""
-    kept = RECORD * len(entries_in(image))
-    return image[:kept].ljust(len(image), b"\x00")
+def plain_or_old(image: bytes) -> bytes:
+    """A journal of either version as one of version 1."""
+    plain = plain_of(image)
+    return image if plain is None else plain
+
+
+def copied(image: bytes, copy: bytes) -> bytes:
+    """What a copy of a journal of either version is, if it has the identity of this one: the records that
+    the journal keeps, of which no follower has a gate, and zeros."""
+    identity, plain = identity_of(copy), plain_or_old(image)
+    assert identity is not None and identity != identity_of(image)
+    rows = read_old_entries(plain)
+    assert not isinstance(rows, Place)
+    kept = b"".join(it.record(OPEN if at == first else 0, last - first if at == first else 0)
+                    for at, (first, last, it) in enumerate(rows))
+    return checked(kept.ljust(len(plain), b"\x00"), identity)
 
 
 def is_kept(image: bytes) -> bool:
-    """Whether the bytes are those of a journal, in a file that one left."""
+    """Whether the bytes are those of a journal of either version, in a file that one left."""
     try:
-        entries_in(image)
-        return JOURNAL.is_left(image)
+        demand_new_numbers([it for _, _, it in rows_of_either(image)])
+        return (OLD_JOURNAL if identity_of(image) is None else JOURNAL).is_left(image)
     except DamagedJournal:
         return False
+
+
+def rows_of_either(image: bytes) -> list[Row]:
+    rows = read_old_entries(image) if identity_of(image) is None else read_entries(image)
+    if isinstance(rows, Place):
+        raise DamagedJournal(f"the journal breaks a rule at bytes {rows.first} to {rows.last}")
+    return rows
+
+
+def entries_of_either(image: bytes) -> list[Entry]:
+    return [it for _, _, it in rows_of_either(image)]
 
 
 class CopyCase(JournalCase):
@@ -46,13 +73,20 @@ class CopyCase(JournalCase):
     def copy_to(self, new: str = "copy", old: str = "journal", limits: Limits = NO_LIMITS) -> Ended:
         return self.program.run("copy-journal", old, new, folder=self.home, limits=limits)
 
-    def check_copy(self, image: bytes, what: str) -> None:
-        """That the journal with these bytes is copied, and left as it is."""
-        self.journal.write_bytes(image)
-        self.assert_output(self.copy_to(), b"", "", what)
-        self.assert_bytes(image, f"{what}: copied and changed")
-        self.assertEqual(self.copy.read_bytes(), copied(image), what)
-        self.assertEqual(entries_in(self.copy.read_bytes()), entries_in(image), what)
+    def check_copy(self, plain: bytes, what: str) -> None:
+        """That the journal with these bytes is copied, and left as it is: of version 1, and then of
+        version 2."""
+        for image in (plain, checked(plain)):
+            self.copy.unlink(missing_ok=True)
+            self.journal.write_bytes(image)
+            self.assert_output(self.copy_to(), b"", "", what)
+            self.assert_bytes(image, f"{what}: copied and changed")
+            self.assert_copied(image, what)
+            self.assertEqual(entries_in(self.copy.read_bytes()), entries_of_either(image), what)
+
+    def assert_copied(self, image: bytes, what: str) -> None:
+        made = self.copy.read_bytes()
+        self.assertEqual(made, copied(image, made), what)
 
     def refuse(self, fault: str, what: str, new: str = "copy", old: str = "journal",
                limits: Limits = NO_LIMITS) -> None:
@@ -67,14 +101,17 @@ class CopyCase(JournalCase):
 
 
 class Copied(CopyCase):
-    """What is a journal is copied byte by byte."""
+    """What is a journal of either version is copied, record by record."""
 
     weight = 3
 
     def test_by_hand(self) -> None:
         image = bytes.fromhex(BY_HAND.replace(" ", "").replace("\n", ""))
         self.check_copy(image, "by hand")
-        self.assertEqual(self.copy.read_bytes(), image[: 3 * RECORD] + bytes(RECORD))
+        made = plain_of(self.copy.read_bytes()) or b""
+        self.assertEqual(made[: 2 * RECORD], image[: 2 * RECORD])
+        # The gate of a follower is closed by a zero.
+        self.assertEqual(made[2 * RECORD :], b"\x00" + image[2 * RECORD + 1 : 3 * RECORD] + bytes(RECORD))
 
     def test_none_and_full(self) -> None:
         """Journals that keep nothing, that are full, and of a piece of 64 KiB and about."""
@@ -82,7 +119,6 @@ class Copied(CopyCase):
         for count, room in ((0, 1), (0, 5000), (1, 1), (2047, 2048), (2048, 2048), (2048, 2049),
                             (2049, 5000), (4096, 4096), (4100, 4100)):
             self.check_copy(journal_of(alone(kept[:count]), room - count), f"{count} of {room}")
-            self.copy.unlink()
 
     def test_drawn(self) -> None:
         """Journals of any groups, with any bytes behind them, which are not copied."""
@@ -94,7 +130,6 @@ class Copied(CopyCase):
                 groups.append(numbers[:count])
                 numbers = numbers[count:]
             self.check_copy(journal_of(groups, self.chance.randrange(1, 90), self.chance), "drawn")
-            self.copy.unlink()
 
     def test_reversals(self) -> None:
         """A journal that begins with one, and journals of any of them."""
@@ -102,13 +137,11 @@ class Copied(CopyCase):
         for state in (UNDONE, NONE_STANDS):
             first = Reversal(one.serial, other.serial, state, one.mac)
             self.check_copy(journal_of([[first]], 2), f"a reversal first, {state}")
-            self.copy.unlink()
         journals, copies = Journals(self.chance), 0
         while copies < 40 * self.times:
             groups, image = journals.entry_journal(self.chance.randrange(9))
             if groups and is_kept(image):
                 self.check_copy(image, "drawn reversals")
-                self.copy.unlink()
                 copies += 1
 
     def test_a_torn_group(self) -> None:
@@ -116,7 +149,7 @@ class Copied(CopyCase):
         requests = payments(9)
         torn = journal_of([payments_of_all(requests[5:])], 3)
         self.check_copy(journal_of([payments_of_all(requests[:5])], 0) + b"\x00" + torn[1:], "torn")
-        self.assertEqual(self.copy.read_bytes()[5 * RECORD :], bytes(7 * RECORD))
+        self.assertEqual(self.copy.read_bytes()[HEADER + 5 * RECORD :], bytes(7 * RECORD))
 
     def test_its_owner_alone_may_read_it(self) -> None:
         """It has amounts and MACs, also where a mask would let all read it."""
@@ -133,7 +166,7 @@ class Copied(CopyCase):
         self.make_journal(4, [payments_of_all(payments(2))])
         (self.home / "link").symlink_to("journal")
         self.assert_output(self.copy_to(old="link"), b"", "", "a link")
-        self.assertEqual(self.copy.read_bytes(), self.journal.read_bytes())
+        self.assert_copied(self.journal.read_bytes(), "a link")
 
     def test_a_service_goes_on_over_it(self) -> None:
         """It answers again what the journal keeps, and accepts what it does not."""
@@ -180,7 +213,7 @@ class Refused(CopyCase):
             with open(self.journal, "rb") as other:
                 fcntl.flock(other, kind)
                 self.refuse(CANNOT_OPEN, f"lock {kind}")
-        self.check_copy(self.journal.read_bytes(), "no longer in use")
+        self.check_copy(plain_or_old(self.journal.read_bytes()), "no longer in use")
 
     def test_sizes(self) -> None:
         good = journal_of(alone(payments_of_all(payments(4))), 2)
@@ -194,9 +227,10 @@ class Refused(CopyCase):
                 groups = [[self.journals.payment(0)], [self.journals.payment(1 << 21)],
                           [self.journals.payment(2 << 21), self.journals.payment(3 << 21)]]
                 image, place = damage(self.journals, groups, journal_of(groups, 3, self.chance))
-                self.assertEqual(read_entries(image), place)
-                self.journal.write_bytes(image)
-                self.refuse(JOURNAL_FAILED, damage.__name__)
+                self.assertEqual(read_old_entries(image), place)
+                for it in (image, checked(image)):
+                    self.journal.write_bytes(it)
+                    self.refuse(JOURNAL_FAILED, damage.__name__)
 
     def test_a_number_twice(self) -> None:
         kept = payments_of_all(payments(3000))
@@ -225,7 +259,8 @@ class Refused(CopyCase):
             for count in range(1, 1 + 600 * self.times):
                 groups = alone(self.chance.sample(kept, self.chance.randint(1, 12)))
                 image = journal_of(groups, self.chance.randrange(6), self.chance)
-                right += self.try_one(runs, scratched(self.journals, image))
+                image = scratched(self.journals, image)
+                right += self.try_one(runs, self.chance.choice((image, checked(image))))
         self.tells(f"{right} right, {count - right} damaged")
         self.assertTrue(0 < right < count)
 
@@ -237,7 +272,7 @@ class Refused(CopyCase):
         self.assert_bytes(image, "copied and changed")
         self.assertEqual(self.copy.exists(), is_right)
         if is_right:
-            self.assertEqual(self.copy.read_bytes(), copied(image))
+            self.assert_copied(image, "scratched")
             self.copy.unlink()
         return is_right
 
@@ -260,17 +295,18 @@ class Refused(CopyCase):
     def test_limits(self) -> None:
         """A copy that may not get its size, which it gets before it is written, is removed again."""
         self.make_journal(4096, [payments_of_all(payments(2100))])
-        for size in (0, RECORD, 1 << 16, RECORD * 4096 - 1):
+        needed = HEADER + RECORD * 4096
+        for size in (0, RECORD, 1 << 16, needed - 1):
             self.refuse(CANNOT_MAKE, f"a limit of {size} bytes", limits=Limits(file_size=size))
-        self.assert_output(self.copy_to(limits=Limits(file_size=RECORD * 4096)), b"", "", "room")
-        self.assertEqual(self.copy.read_bytes(), self.journal.read_bytes())
+        self.assert_output(self.copy_to(limits=Limits(file_size=needed)), b"", "", "room")
+        self.assert_copied(self.journal.read_bytes(), "room")
 
     def test_a_full_file_system(self) -> None:
         """The copy gets its size, which takes no room, and some of its bytes: a part of a piece of what
         is kept, a piece, and some of the zeros. Then it is removed, and all room is free again. With
         the page that it lacks it is made."""
         needed = RECORD * 4096 // PAGE
-        image = self.make_journal(4096, [payments_of_all(payments(2100))])
+        image = self.make_journal(4095, [payments_of_all(payments(2100))])
         for pages in (1, 15, 16, 17, needed - 1, needed):
             small, what = SmallFiles(self.folder(), pages), f"{pages} of {needed} pages"
             self.addCleanup(small.close)
@@ -281,6 +317,6 @@ class Refused(CopyCase):
                 self.assertEqual(small.free(), pages, what)
             else:
                 self.assert_output(self.copy_to(os.fspath(made)), b"", "", what)
-                self.assertEqual(made.read_bytes(), image, what)
+                self.assertEqual(made.read_bytes(), copied(image, made.read_bytes()), what)
                 self.assertEqual(small.free(), 0, what)
             self.assert_bytes(image, what)

@@ -4,9 +4,10 @@ from __future__ import annotations
 from typing import Sequence
 
 from ..service.test_service_log_calls import REPLIED, Opens as OpensOfLogs, TracedCase, opening
+from ..support.formats.checked_journal import HEADER, journal_of
 from ..support.formats.journal_file import appended, records_for
-from ..support.formats.journal_records import RECORD, journal_of
-from ..support.formats.left_files import JOURNAL, looked
+from ..support.formats.journal_records import RECORD
+from ..support.formats.left_files import AHEAD, JOURNAL, looked
 from ..support.models.model_journal import groups_by_reads, judged, payments_of_all
 from ..support.program import Ended
 from ..support.service.client import Exchange, payments
@@ -20,8 +21,12 @@ PIECE = 1 << 16
 
 
 def reads(size: int) -> list[str]:
-    """What is read of a journal of so many bytes: pieces in turn."""
-    return [f"pread64(journal, {min(PIECE, size - at)} bytes at {at})" for at in range(0, size, PIECE)]
+    """What is read of a journal of so many bytes: its header, which takes bytes ahead, and the records in
+    pieces."""
+    pieces = range(HEADER, size, PIECE)
+    return [f"pread64(journal, {min(AHEAD, size)} bytes at 0)",
+            *(f"pread64(journal, {min(PIECE, size - at)} bytes at {at})" for at in pieces
+              if size - at >= AHEAD or at + min(PIECE, size - at) > AHEAD)]
 
 
 def start(image: bytes) -> list[str]:
@@ -33,9 +38,9 @@ def start(image: bytes) -> list[str]:
 def group(place: int, count: int) -> list[str]:
     """The bodies of a group are written and synced, and then the gate of the first; then all
     answers go out in one write."""
-    bodies = [f"pwrite64(journal, {RECORD - 1} bytes at {RECORD * (place + at) + 1})"
+    bodies = [f"pwrite64(journal, {RECORD - 1} bytes at {HEADER + RECORD * (place + at) + 1})"
               for at in range(count)]
-    return [*bodies, SYNCED, f"pwrite64(journal, 1 bytes at {RECORD * place})", SYNCED, REPLIED]
+    return [*bodies, SYNCED, f"pwrite64(journal, 1 bytes at {HEADER + RECORD * place})", SYNCED, REPLIED]
 
 
 class Traced(TracedCase, JournalCase):

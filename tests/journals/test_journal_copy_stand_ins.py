@@ -29,8 +29,7 @@ FOUND = (
         CopyWay.MARK_NOT_SYNCED, CopyWay.SIZE_NOT_SYNCED, CopyWay.LAST_WITH_THE_REST,
         CopyWay.FIRST_TO_LAST, CopyWay.RECORD_LAST, CopyWay.HEAD_LAST)),
     (Losses, "test_any_bytes_since_a_sync", (
-        CopyWay.RECORD_LAST, CopyWay.HEAD_LAST, CopyWay.GATE_AGAIN, CopyWay.KIND_WITH_THE_REST,
-        CopyWay.LAST_WITH_THE_REST)),
+        CopyWay.KIND_WITH_THE_REST, CopyWay.LAST_WITH_THE_REST)),
     (Kills, "test_less_than_a_piece", (CopyWay.FIRST_TO_LAST, CopyWay.FRONT_LAST)),
     (Kills, "test_in_its_removal", (CopyWay.MARKED_FRONT_LAST, CopyWay.NOT_REMOVED)),
 )

@@ -10,8 +10,9 @@ import os
 import signal
 from typing import Sequence
 
+from ..support.formats.checked_journal import HEADER, blank, header_of, journal_of
 from ..support.formats.journal_file import appended, bodies_of, payments_in, records_for
-from ..support.formats.journal_records import RECORD, journal_of
+from ..support.formats.journal_records import RECORD
 from ..support.models.model_journal import groups_by_reads, judged, payments_of_all
 from ..support.program import Ended, Limits
 from ..support.service.client import Exchange, payments
@@ -67,7 +68,7 @@ class FailedCalls(JournalCase):
 
     def fail_at(self, file: CutFile, failure: Failure) -> None:
         what, requests = f"{failure}", payments(PAYMENTS)
-        file.make(bytes(RECORD * ROOM))
+        file.make(blank(ROOM))
         file.begin(Plan(failure=failure))
         packets = packets_of(requests)
         done = 0 if failure.call == 0 else group_of(failure.call)
@@ -126,7 +127,7 @@ class FailedReads(JournalCase):
         self.addCleanup(file.close)
         words = ("serve", "bank.toml", "--journal", file.path)
         room = records_for(280)
-        file.make(bytes(RECORD * room))
+        file.make(blank(room))
         for seed in range(4):
             file.begin(Plan(seed, in_pieces=True))
             before = file.image()
@@ -145,7 +146,7 @@ class CutShort(JournalCase):
 
     def test_cut_short(self) -> None:
         """The next acceptance fails, wherever the end is now; what needs none is answered."""
-        size, next_record = ROOM * RECORD, 3 * RECORD
+        size, next_record = HEADER + ROOM * RECORD, HEADER + 3 * RECORD
         for left in (0, 1, RECORD, next_record - 1, next_record, next_record + 1,
                      next_record + RECORD, size - RECORD, size - 1):
             self.cut_to(left)
@@ -208,7 +209,7 @@ class Limited(JournalCase):
         whole = (room - used) // size
         done = fresh[: size * whole]
         how = How(PACKETS.pipes,
-                  limits=Limits(file_size=room * RECORD + beyond, ignores_file_signal=ignored))
+                  limits=Limits(file_size=HEADER + room * RECORD + beyond, ignores_file_signal=ignored))
         ended = self.run_service(ON_JOURNAL, [stream_of(it) for it in packets], how)
         self.assertEqual(self.kept(), payments_of_all([*requests[:used], *done]), what)
         self.check_file(requests, what=f"behind {what}")
@@ -221,7 +222,7 @@ class FullFileSystem(JournalCase):
 
     weight = 3
     pages, journal_pages = 2, 4
-    fits = pages * PAGE // RECORD
+    fits = (pages * PAGE - HEADER) // RECORD
 
     def setUp(self) -> None:
         super().setUp()
@@ -246,9 +247,10 @@ class FullFileSystem(JournalCase):
                    JOURNAL_FAILED, PACKETS, what)
         self.assertEqual(self.small.free(), 0, f"{what}: the file system is not full")
         wanted = bytearray(appended(empty, [payments_of_all(it) for it in packets[: done // size]]))
-        torn = bodies_of(payments_of_all(requests[done : done + size]))[: self.fits - done]
+        torn = bodies_of(payments_of_all(requests[done : done + size]), done)[: self.fits - done]
         for place, body in enumerate(torn, done):
-            wanted[RECORD * place + 1 : RECORD * (place + 1)] = body
+            at = HEADER + RECORD * place
+            wanted[at + 1 : at + RECORD] = body
         self.journal.write_bytes(self.path.read_bytes())
         self.assert_bytes(bytes(wanted), what)
         self.assert_payments(payments_of_all(requests[:done]), what)
@@ -263,16 +265,17 @@ class FullFileSystem(JournalCase):
         self.assertEqual(payments_in(self.path.read_bytes()), payments_of_all(requests[:done]), what)
 
     def make_sparse(self) -> bytes:
-        """Makes the journal anew, of zeros that take no room."""
+        """Makes the journal anew, with zeros that take no room behind its header."""
         self.path.unlink(missing_ok=True)
         with open(self.path, "wb") as it:
+            it.write(header_of())
             it.truncate(self.journal_pages * PAGE)
-        self.assertEqual(self.small.free(), self.pages, "the zeros of a sparse journal take room")
-        return bytes(self.journal_pages * PAGE)
+        self.assertEqual(self.small.free(), self.pages - 1, "the zeros of a sparse journal take room")
+        return header_of().ljust(self.journal_pages * PAGE, b"\x00")
 
     def test_another_file_takes_the_room(self) -> None:
         """While a service has the journal open: what the page that it has holds is kept."""
-        page = PAGE // RECORD
+        page = (PAGE - HEADER) // RECORD
         requests = payments(page + 20)
         self.make_sparse()
         service = self.start(*self.words)

@@ -3,8 +3,9 @@ from __future__ import annotations
 
 import time
 
+from ..support.formats.checked_journal import journal_of
 from ..support.formats.journal_file import LAST_PART
-from ..support.formats.journal_records import RECORD, Payment, journal_of
+from ..support.formats.journal_records import RECORD, Payment
 from ..support.formats.large_stores import payments_in_rounds
 from ..support.models.model_journal import LATEST, added_by, judged
 from ..support.service.client import Exchange, first_counters, payments
@@ -31,7 +32,7 @@ class Latest(JournalCase):
         self.requests = requests
         first = added_by(judged(requests[:FIRST], [], LAST_PART * FIRST))
         self.assertEqual(len(first), FIRST)
-        others = payments_in_rounds(range(1, TERMINALS + 1)).rounds(first_counters(ROUNDS))
+        others = payments_in_rounds(range(1, TERMINALS + 1)).rounds(first_counters(ROUNDS), FIRST)
         self.all = [*first, *[OTHER] * (TERMINALS * ROUNDS)]
         room = 60 + len(self.all) // (LAST_PART - 1)
         self.journal.write_bytes(journal_of(alone(first), 0) + others + bytes(room * RECORD))

@@ -5,6 +5,7 @@ from __future__ import annotations
 from typing import Sequence
 
 from ..support.case import in_parts
+from ..support.formats.checked_journal import HEADER, checked
 from ..support.formats.journal_file import appended
 from ..support.formats.journal_records import NONE_STANDS, UNDONE, Entry, Payment, Reversal
 from ..support.models.model_journal import added_by, books_of, judged, payments_of_all
@@ -69,11 +70,12 @@ class Found(JournalCase):
                 image[at] = value
                 if at == 16:
                     image[15:18] = b"\x1f\xff\xff"
+                image = bytearray(checked(bytes(image)))
                 self.journal.write_bytes(bytes(image))
                 self.check(ON_JOURNAL, [stream_of(payments(2))], b"", "journal: failed",
                            what=f"byte {at} is {value}")
                 self.assert_bytes(bytes(image), "damage")
-        self.journal.write_bytes(good)
+        self.journal.write_bytes(checked(good))
         self.check_file([*payments(2), *undoing(1)], what="no damage")
 
     def test_behind_a_torn_group(self) -> None:
@@ -84,7 +86,7 @@ class Found(JournalCase):
         torn = added_by(judged([*undo[:4]], kept, 99))
         image = appended(self.make_journal(40, [kept]), [torn])
         closed = bytearray(image)
-        closed[32 * 4] = 0
+        closed[HEADER + 32 * 4] = 0
         self.journal.write_bytes(bytes(closed))
         self.check_file([*paid[:4], undo[5], *paid[:6], *undo[:4]], what="behind a torn group")
 

@@ -4,7 +4,7 @@ from __future__ import annotations
 from enum import Enum
 
 from ..service.test_service_stand_ins import InLives, StandInCase
-from ..support.formats.journal_records import RECORD
+from ..support.formats.checked_journal import blank
 from ..support.service.client import PAN, PIN, Purchase, payments, payments_of, refused_requests
 from ..support.service.journal_lives import ALL, ROOM, JournalLives
 from ..support.service.journal_stand_in import Way
@@ -58,7 +58,7 @@ class StandIns(InLives, StandInCase):
         self.write_table((*payments(3000), *refused_requests(), *others))
 
     def lives(self, way: Enum) -> JournalLives:
-        file = CutFile(self.folder(), bytes(RECORD * ROOM))
+        file = CutFile(self.folder(), blank(ROOM))
         self.addCleanup(file.close)
         return JournalLives(self.stand_in(way), self.home, file, self.chance)
 

@@ -13,8 +13,9 @@ from dataclasses import dataclass
 from pathlib import Path
 from typing import Sequence
 
+from ..support.formats.checked_journal import journal_of, room_in
 from ..support.formats.journal_file import appended, payments_in, records_for
-from ..support.formats.journal_records import RECORD, Payment, journal_of
+from ..support.formats.journal_records import Payment
 from ..support.models.model_journal import answers_of, groups_by_reads, judged, payments_of_all
 from ..support.program import Program
 from ..support.quick import QuickRuns
@@ -88,7 +89,7 @@ class Torn(JournalCase):
         self.journal.write_bytes(image)
         calls = self.traced(requests[old:])
         self.check_calls(calls, image)
-        found = judged(requests[old:], kept, len(image) // RECORD)
+        found = judged(requests[old:], kept, room_in(image))
         groups = groups_by_reads(requests[old:], found, [len(stream_of(requests[old:]))])
         stages = [payments_in(appended(image, groups[:at])) for at in range(len(groups) + 1)]
         counts: dict[int, int] = {}
@@ -120,7 +121,7 @@ class Torn(JournalCase):
         self.journal.write_bytes(torn)
         ended = runs.run(["serve", os.fspath(self.home / "bank.toml"), "--journal",
                           os.fspath(self.journal)], stream_of(others))
-        room = len(torn) // RECORD
+        room = room_in(torn)
         for count in range(done, min(done + 2, len(stages))):
             found = judged(others, stages[count], room)
             if ended.output == answers_of(found):
@@ -131,7 +132,7 @@ class Torn(JournalCase):
 
     def judge_end(self, torn: bytes, kept: Sequence[Payment], others: Sequence[Exchange]) -> None:
         """What the run left of the torn journal, to the byte."""
-        found = judged(others, kept, len(torn) // RECORD)
+        found = judged(others, kept, room_in(torn))
         groups = groups_by_reads(others, found, reads_of(others))
         self.assert_bytes(appended(torn, groups), "behind a torn journal")
 

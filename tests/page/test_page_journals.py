@@ -7,6 +7,7 @@ from dataclasses import replace
 from typing import Sequence
 
 from ..support.commands.shown import journal_ended
+from ..support.formats.checked_journal import HEADER, behind_header, checked
 from ..support.formats.journal_records import (
     BY_HAND, BY_HAND_ROWS, BY_HAND_SUMS, DAMAGES, OPEN, RECORD, REVERSAL_DAMAGES, REVERSED_BY_HAND,
     REVERSED_BY_HAND_ROWS, REVERSED_BY_HAND_SUMS, UNDONE, Group, Payment, Place, Reversal, Row,
@@ -189,6 +190,24 @@ class TestDamage(JournalCase):
                     self.assertIn(f": record {place.first // RECORD} ", found.fault)
         self.tells(f"{len(damages)} kinds, {12 * self.times} journals each")
         self.assert_quiet()
+
+    def test_version_2(self) -> None:
+        """The same behind a header, whose identity is told. Damage stands so many bytes later."""
+        for damage in DAMAGES:
+            groups: list[Group] = []
+            while not any(len(group) > 1 for group in groups):
+                groups = without_repeats(self.journals.entry_groups(3))
+            plain, identity = journal_of(groups, 2, self.chance), self.chance.getrandbits(64)
+            wrong, place = damage(self.journals, groups, plain)
+            right, refused = self.drop(checked(plain, identity), checked(wrong, identity), kind="journal")
+            self.assert_right(right, rows_in(groups), 2)
+            self.assertIn(f"Version 2, with the identity {identity:016X}.", right.words)
+            self.assert_damaged(refused, behind_header(place), damage.__name__)
+        changed = bytearray(checked(plain))
+        changed[HEADER + 15] ^= 1
+        found = self.drop(bytes(changed), kind="journal")[0]
+        self.assertIn(": record 0 ", found.fault)
+        self.assertIn("lacks its check sum", found.fault)
 
     def test_first(self) -> None:
         """Of several places the first one is named: of a record, of records, of a group's head. A

@@ -7,14 +7,16 @@ from pathlib import Path
 from typing import Iterator, Sequence
 
 from ..support.case import ProgramCase
+from ..support.formats import journal_records
 from ..support.formats.bank import BANK
+from ..support.formats.checked_journal import checked, journal_of
 from ..support.formats.journal_records import RECORD as JOURNAL_RECORD
-from ..support.formats.journal_records import journal_of
-from ..support.formats.left_files import JOURNAL, LOG, Records
+from ..support.formats.left_files import JOURNAL, LOG, OLD_JOURNAL, Records
 from ..support.formats.log_file import RECORD, log_image, record
 from ..support.models.model_journal import payments_of_all
 from ..support.program import Ended, Word
 from ..support.service.client import payments
+from ..support.service.journal_case import OLD_VERSION
 from ..support.service.service_case import numbers_of
 from .test_deployment import copied
 
@@ -83,7 +85,9 @@ class Others(ProgramCase):
     def test_others(self) -> None:
         for words, form, line, _ in STORES:
             for what, image in self.images(form.size):
-                self.refuse(words, image, line, what)
+                # Random records may be such as one of version 1 leaves.
+                is_old = form is JOURNAL and OLD_JOURNAL.is_left(image)
+                self.refuse(words, image, OLD_VERSION if is_old else line, what)
 
     def test_copies(self) -> None:
         """None is copied as a journal, or as a log, that keeps nothing."""
@@ -97,13 +101,24 @@ class Others(ProgramCase):
             self.assertFalse((self.home / "copy").exists(), what)
 
     def test_a_store_of_another_kind(self) -> None:
-        """Each with entries. A new one is zeros, as one of the other kind is."""
+        """Each with entries."""
         requests = payments(5)
         log = log_image(numbers_of(requests), 8)
         journal = journal_of([[it] for it in payments_of_all(requests)], 3)
         self.refuse(ON_JOURNAL[0], log, ON_JOURNAL[2], "a log")
         for words, _, line, _ in (ON_LOG, ON_LEDGER):
             self.refuse(words, journal, line, "a journal")
+
+    def test_a_journal_of_version_1(self) -> None:
+        """A service over it says how to come from it. So it does of zeros, as a new one was."""
+        kept = payments_of_all(payments(5))
+        for groups, room in (([], 1), ([], 5), ([[it] for it in kept], 0), ([kept], 3)):
+            image = journal_records.journal_of(groups, room)
+            self.refuse(ON_JOURNAL[0], image, OLD_VERSION, "a journal of version 1")
+            ended = self.run_on(ON_JOURNAL[0], image, EXPLAIN)
+            told = (f"{OLD_VERSION}\njournal file: version 1; wanted: one of version 2; make it by dukpt "
+                    "copy-journal OLD NEW\n")
+            self.assert_ended(ended, 1, b"", told.encode(), "explained")
 
     def test_any_records(self) -> None:
         """Of closed records behind some groups, at random: those that a stop may leave are served, and
@@ -151,7 +166,7 @@ class Others(ProgramCase):
             self.assertTrue(told.startswith(f"{line}\n{name} file: empty; wanted: "), told)
             self.assertTrue(told.endswith(f"; make it by dukpt {making} FILE RECORDS\n"), told)
             ended = self.run_on(words, whole(BANK, form.size), EXPLAIN)
-            place = form.foreign(whole(BANK, form.size))
+            place = (OLD_JOURNAL if form is JOURNAL else form).foreign(whole(BANK, form.size))
             told = f"{line}\nno {name} file: record {place} is neither open nor zero; wanted: "
             self.assertTrue(ended.faults.decode().startswith(told), str(ended))
 
@@ -165,6 +180,6 @@ class Others(ProgramCase):
             ended = self.program.run(*ON_LOG[0], "file", given=b"", folder=self.home)
             self.assert_ended(ended, 0, b"", b"", image.hex())
         torn = b"".join(b"\x00" + self.chance.randbytes(JOURNAL_RECORD - 1) for _ in range(1024))
-        self.path.write_bytes(torn + bytes(JOURNAL_RECORD))
+        self.path.write_bytes(checked(torn + bytes(JOURNAL_RECORD)))
         ended = self.program.run(*ON_JOURNAL[0], "file", given=b"", folder=self.home)
         self.assert_ended(ended, 0, b"", b"", "a group in part")

@@ -10,7 +10,7 @@ import time
 from typing import ClassVar, Union
 
 from ..support.case import in_parts
-from ..support.formats.journal_records import RECORD
+from ..support.formats.checked_journal import blank
 from ..support.formats.log_file import log_image
 from ..support.service import journal_lives, lives
 from ..support.service.lives import Finding, Wrong
@@ -69,7 +69,7 @@ class OnLog(PowerCuts, StoreCase):
 
 class OnJournal(PowerCuts, StoreCase):
     weight = 20
-    kind, zeros = journal_lives.JournalLives, bytes(RECORD * journal_lives.ROOM)
+    kind, zeros = journal_lives.JournalLives, blank(journal_lives.ROOM)
 
     @in_parts(2)
     def test_histories(self) -> None:

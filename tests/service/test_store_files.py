@@ -11,7 +11,7 @@ import os
 import subprocess
 from typing import ClassVar, Iterator
 
-from ..support.formats import journal_records, log_file
+from ..support.formats import checked_journal, log_file
 from ..support.program import SECONDS, Ended
 from ..support.service.client import payments
 from ..support.service.service_case import ServiceCase, answers_to, frames_of
@@ -37,15 +37,18 @@ def turn_of_devices() -> Iterator[None]:
 class StoreCase(ServiceCase):
     """A test of a service over a store."""
 
-    # The word for it, and the bytes of a record.
+    # The word for it.
     store: ClassVar[str]
-    record: ClassVar[int]
+
+    def blank(self, records: int) -> bytes:
+        """A new store, with room for so many."""
+        raise NotImplementedError
 
     def words(self, name: str) -> list[str]:
         return ["serve", "bank.toml", f"--{self.store}", name]
 
     def make(self, records: int) -> None:
-        self.write(self.store, bytes(self.record * records))
+        self.write(self.store, self.blank(records))
 
     def refuse(self, fault: str, name: str, what: str) -> None:
         self.check(self.words(name), frames_of(payments(1)), b"", f"{self.store}: {fault}", what=what)
@@ -96,8 +99,14 @@ class StoreFiles:
 
 
 class OfLog(StoreFiles, StoreCase):
-    store, record = "log", log_file.RECORD
+    store = "log"
+
+    def blank(self, records: int) -> bytes:
+        return bytes(log_file.RECORD * records)
 
 
 class OfJournal(StoreFiles, StoreCase):
-    store, record = "journal", journal_records.RECORD
+    store = "journal"
+
+    def blank(self, records: int) -> bytes:
+        return checked_journal.blank(records)

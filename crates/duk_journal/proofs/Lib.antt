@@ -3,3 +3,5 @@ mod FieldPlaces
 mod MemoryJournalMeaning
 mod SaidEntries
 mod StandingPayments
+mod CheckedContents
+mod ChangedBytes

@@ -1,5 +1,7 @@
 pub mod Entry
 pub mod RecordFormat
+pub mod Header
+pub mod CheckedFormat
 pub mod Groups
 pub mod Standing
 pub mod CheckSum

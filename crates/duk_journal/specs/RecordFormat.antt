@@ -1,5 +1,5 @@
--- The disk of a journal: a format of this project's own. It is a positive number of records of 32
--- bytes: a gate, and 31 bytes of contents.
+-- The disk of a journal of version 1: a format of this project's own. It is a positive number of
+-- records of 32 bytes: a gate, and 31 bytes of contents.
 use Rattle.std.specs.Prelude.{◌≡◌, ◌≤◌, ◌+◌, ◌++◌, ◌∷◌, ℕ, List, replicate}
 use Rattle.byteorder.specs.Endian.{big_bytes}
 use Rattle.duk_store.specs.Format.{FormatMeaning}
@@ -43,9 +43,10 @@ entry_format = record {
   record_length = record_length;
   headers = 0;
   is_header = λ record_bytes. ⊥;
+  identity = λ header. 0;
   most = most_of_group;
   may_stand = MayBeKept;
-  says = λ place followers entry contents. SaysEntry followers entry contents;
+  says = λ identity place followers entry contents. SaysEntry followers entry contents;
 }
 
 -- the sizes of a journal's disk

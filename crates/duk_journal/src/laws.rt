@@ -1,20 +1,31 @@
 //! Laws of journals, each the contract of a function that does nothing.
 
 ghost use Rattle.std.specs.Prelude.{◌≡◌, ◌⊎◌, ◌↔◌, ◌<◌, ◌≤◌, ◌*◌, ◌^◌, ◌++◌, ◌∷◌, ℕ, List, [], All, Contains, IsTrue, drop};
-ghost use Rattle.duk_store.specs.MemoryDisk.{memory_disk_meaning, new_disk};
+ghost use Rattle.duk_store.specs.MemoryDisk.{memory_disk_meaning, new_disk_with};
 ghost use Rattle.duk_store.specs.StoreState.{IsNew};
 ghost use Rattle.duk_tree.specs.Serial.{Serial};
 ghost use Rattle.duk_journal.specs.DiskJournal.{disk_journal_meaning, new_disk_journal};
 ghost use Rattle.duk_journal.specs.CheckSum.{check_sum_of};
+ghost use Rattle.duk_journal.specs.CheckedFormat.{SaysChecked};
 ghost use Rattle.duk_journal.specs.Entry.{AreFields, kind_of};
-ghost use Rattle.duk_journal.specs.Groups.{Entries, HasContents, KeepsEntries};
+ghost use Rattle.duk_journal.specs.Groups.{Entries, HasContents, KeepsChecked, KeepsEntries};
+ghost use Rattle.duk_journal.specs.Header.{header_of, journal_kind};
 ghost use Rattle.duk_journal.specs.Standing.{AddsAmount, StandsWith, is_reversed, reversed_numbers, standing_amount};
 ghost use Rattle.duk_journal.specs.declared.entry.Entry.{Entry};
 
+use crate::checked_format::CheckedFormat;
 use crate::record_format::EntryFormat;
 
 /// The bytes of a journal's disk keep one list of entries at most.
 pub fn one_list()
+    ensures { (bytes : List ℕ) (one two : Entries) → KeepsChecked bytes one
+        → KeepsChecked bytes two → one ≡ two }
+{
+    duk_store::laws::one_list(&CheckedFormat {});
+}
+
+/// And so do those of version 1.
+pub fn one_unchecked_list()
     ensures { (bytes : List ℕ) (one two : Entries) → KeepsEntries bytes one
         → KeepsEntries bytes two → one ≡ two }
 {
@@ -28,6 +39,18 @@ pub fn one_contents()
         → (followers ≡ others) × (one ≡ two) }
 {
     duk_tree::laws::serials();
+}
+
+/// A record with one changed byte behind its gate has no contents, so that such a change is always
+/// found as damage. Of other changes one in 2^32 passes.
+pub fn changed_byte()
+    ensures { (identity place followers others : ℕ) (one other : Entry) (before after : List ℕ)
+        (byte changed : ℕ) → All (λ byte. byte < 2 ^ 8) (before ++ byte ∷ after)
+        → changed < 2 ^ 8 → SaysChecked identity place followers one (before ++ byte ∷ after)
+        → SaysChecked identity place others other (before ++ changed ∷ after)
+        → byte ≡ changed }
+{
+    duk_crc::laws::one_byte();
 }
 
 /// What stands behind the kind of a record tells the kind: no code is written as a state is. So where
@@ -50,14 +73,14 @@ pub fn check_sums()
     duk_tree::laws::serials();
 }
 
-/// A journal over a new disk in memory of 32 bytes for each of one or more records is a new journal:
-/// it keeps nothing, and is honest, sound and calm.
+/// A journal over a new disk in memory of 32 bytes for each of one or more records, of which the
+/// first is a header, is a new journal: it keeps nothing, and is honest, sound and calm.
 pub fn new_disk_journal()
-    ensures { (records : ℕ) → 1 ≤ records
-        → IsNew ((disk_journal_meaning memory_disk_meaning).state_of
-        (new_disk_journal (new_disk (32 * records)))) [] }
+    ensures { (identity records : ℕ) → identity < 2 ^ 64 → 1 ≤ records
+        → IsNew ((disk_journal_meaning memory_disk_meaning).state_of (new_disk_journal
+        (new_disk_with (header_of journal_kind identity) (32 * records)))) [] }
 {
-    duk_store::laws::new_disk_records(&EntryFormat {});
+    duk_store::laws::new_headed_records(&CheckedFormat {});
 }
 
 /// The totals of entries add up the payments that stand, each with its amount, and nothing else. A

@@ -1,4 +1,4 @@
-//! The format of a journal's disk: records of 32 bytes.
+//! The format of a journal's disk, version 1: records of 32 bytes, without a header.
 
 ghost use Rattle.std.specs.Prelude.{◌≡◌, ◌+◌, ◌^◌, ◌++◌, ◌<◌, ◌≤◌, ◌↔◌, IsTrue, IfSome, Some, length};
 ghost use Rattle.arrayvec.specs.ArrayVec.{array_vec_len};
@@ -26,7 +26,7 @@ const MOST_OF_GROUP: u16 = 4096;
 /// The bytes of contents.
 pub type ContentsBytes = ArrayVec<u8, CONTENTS_LENGTH>;
 
-/// The format of a journal's records.
+/// The format of a journal's records, version 1. It is read, so that journals of it can be copied.
 #[derive(Drop)]
 pub struct EntryFormat {}
 
@@ -51,7 +51,18 @@ impl Format for EntryFormat {
         false
     }
 
-    fn write(&self, _place: u64, followers: u16, item: &Entry, contents: &mut [u8]) {
+    fn identity(&self, _header: &[u8]) -> u64 {
+        0
+    }
+
+    fn write(
+        &self,
+        _identity: u64,
+        _place: u64,
+        followers: u16,
+        item: &Entry,
+        contents: &mut [u8],
+    ) {
         let said = Contents {
             followers,
             entry: *item,
@@ -59,7 +70,7 @@ impl Format for EntryFormat {
         contents.copy_from_slice(said.bytes().as_slice());
     }
 
-    fn read(&self, _place: u64, contents: &[u8]) -> Option<(u16, Entry)> {
+    fn read(&self, _identity: u64, _place: u64, contents: &[u8]) -> Option<(u16, Entry)> {
         let said = Contents::of_bytes(contents)?;
         Some((said.followers, said.entry))
     }
@@ -146,13 +157,13 @@ pub fn contents_of_record(bytes: &[u8]) -> Option<Contents>
     Contents::of_bytes(&bytes[1..])
 }
 
-/// Appends bytes to those of contents.
-fn append(contents: &mut ContentsBytes, bytes: &[u8])
-    requires { array_vec_len contents.old + length bytes.now ≤ 31 }
-    ensures bytes { contents.new.items ≡ contents.old.items ++ bytes.now }
-    ensures len { array_vec_len contents.new ≡ array_vec_len contents.old + length bytes.now }
+/// Appends bytes to others.
+pub fn append<const N: usize>(bytes: &mut ArrayVec<u8, N>, more: &[u8])
+    requires { array_vec_len bytes.old + length more.now ≤ N }
+    ensures bytes { bytes.new.items ≡ bytes.old.items ++ more.now }
+    ensures len { array_vec_len bytes.new ≡ array_vec_len bytes.old + length more.now }
 {
-    contents.try_extend_from_slice(bytes).unwrap();
+    bytes.try_extend_from_slice(more).unwrap();
 }
 
 /// Whether the counter of an entry's number is usable, and what was decided may stand under it.

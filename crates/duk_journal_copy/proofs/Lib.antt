@@ -1,6 +1,13 @@
+mod Begun
+mod Converted
 mod Copied
+mod CopiedRecords
+mod Fronts
+mod HeaderBytes
 mod InPart
-mod KeptFront
+mod KeptCopy
+mod RecordPlaces
 mod Results
+mod WholeBytes
 mod WrittenDisks
 mod WrittenLists

@@ -1,10 +1,10 @@
 -- What calls in turn do to a disk of which a range is written.
-use Rattle.std.proofs.Common.{◌≡◌, ◌∙◌, ◌+◌, ◌-◌, ◌≤◌, ℕ, List, ap, arith, length, sym}
+use Rattle.std.proofs.Common.{◌≡◌, ◌∙◌, ◌+◌, ◌-◌, ◌≤◌, ℕ, arith, refl, sym}
 use Rattle.duk_journal_copy.specs.inner.Blank.{LeavesOutside}
-use Rattle.duk_journal_copy.specs.inner.Copy.{AreBytesCopied, StaysRead}
-use Rattle.duk_store.specs.Disk.{DiffersWithin, DiskState, HasFailed, LeavesChanged, LeavesWithin, PreservesDisk, range_of, written}
+use Rattle.duk_journal_copy.specs.inner.Copy.{StaysRead}
+use Rattle.duk_store.specs.Disk.{DiffersWithin, DiskState, HasFailed, LeavesChanged, LeavesWithin, PreservesBytes, PreservesDisk}
 use Rattle.duk_store.specs.declared.fault.StoreFault.{StoreFault}
-use Rattle.duk_journal_copy.proofs.WrittenLists.{bytes_on, differs_not, differs_then, differs_wider}
+use Rattle.duk_journal_copy.proofs.WrittenLists.{differs_not, differs_then, differs_wider}
 
 pub keeps_on : (old mid new : DiskState) → PreservesDisk old mid → PreservesDisk mid new → PreservesDisk old new
 keeps_on old mid new first second = record {
@@ -23,18 +23,32 @@ fails_later old mid new fault keeps none fails = record {
   not_calm = λ calm. fails.not_calm (keeps.calm calm);
 }
 
+pub bytes_then : (old mid new : DiskState) → PreservesBytes old mid → PreservesBytes mid new → PreservesBytes old new
+bytes_then old mid new first second = record {
+  reads = second.reads ∙ first.reads;
+  may_leave = λ bytes. (
+    (λ left. (first.may_leave bytes).0 ((second.may_leave bytes).0 left)),
+    (λ left. (second.may_leave bytes).1 ((first.may_leave bytes).1 left)),
+  );
+}
+
 pub stays_on : (old mid new : DiskState) → StaysRead old mid → StaysRead mid new → StaysRead old new
 stays_on old mid new first second = record {
   nature = keeps_on _ _ _ first.nature second.nature;
   no_failure = second.no_failure ∙ first.no_failure;
-  bytes = record {
-    reads = second.bytes.reads ∙ first.bytes.reads;
-    may_leave = λ bytes. (
-      (λ left. (first.bytes.may_leave bytes).0 ((second.bytes.may_leave bytes).0 left)),
-      (λ left. (second.bytes.may_leave bytes).1 ((first.bytes.may_leave bytes).1 left)),
-    );
-  };
+  bytes = bytes_then old mid new first.bytes second.bytes;
 }
+
+-- ---- no call
+
+pub keeps_none : (disk : DiskState) → PreservesDisk disk disk
+keeps_none disk = record { honest = ((λ h. h), (λ h. h)); size = refl; calm = λ calm. calm; disarmed = λ disarmed. disarmed }
+
+pub bytes_none : (disk : DiskState) → PreservesBytes disk disk
+bytes_none disk = record { reads = refl; may_leave = λ bytes. ((λ left. left), (λ left. left)) }
+
+pub stays_none : (disk : DiskState) → StaysRead disk disk
+stays_none disk = record { nature = keeps_none disk; no_failure = refl; bytes = bytes_none disk }
 
 -- ---- what a stop leaves
 
@@ -55,20 +69,3 @@ outside_wider from to at some old new low high changed = λ h bytes left.
 -- a sync adds nothing
 pub outside_synced : (from to : ℕ) (old mid new : DiskState) → PreservesDisk old mid → LeavesOutside from to old mid → LeavesWithin mid new → LeavesOutside from to old new
 outside_synced from to old mid new nature first within = λ h bytes left. first h bytes (within (nature.honest.0 h) bytes left)
-
--- bytes so far, and a piece of them more
-pub copied_on : (from at count : ℕ) (old old1 old2 new new1 new2 : DiskState)
-    → (old.honest → length old.reads ≡ old.size) → (new.honest → length new.reads ≡ new.size)
-    → from ≤ at → at + count ≤ old.size → at + count ≤ new.size → AreBytesCopied from at old old1 new new1
-    → AreBytesCopied at (at + count) old1 old2 new1 new2 → AreBytesCopied from (at + count) old old2 new new2
-copied_on from at count old old1 old2 new new1 new2 old_size new_size behind inside room so_far step = record {
-  stays = stays_on old old1 old2 so_far.stays step.stays;
-  nature = keeps_on _ _ _ so_far.nature step.nature;
-  no_failure = step.no_failure ∙ so_far.no_failure;
-  copied = λ h k.
-      let piece : new2.reads ≡ written new1.reads at (range_of at (at + count - at) old1.reads) = step.copied (so_far.stays.nature.honest.0 h) (so_far.nature.honest.0 k) in
-      let count_is : at + count - at ≡ count = omega arith in
-      piece ∙ ap (λ (n : ℕ). written new1.reads at (range_of at n old1.reads)) count_is
-      ∙ ap (λ (xs : List ℕ). written new1.reads at (range_of at count xs)) so_far.stays.bytes.reads
-      ∙ bytes_on old.reads new.reads new1.reads from at count behind (omega (arith, new_size k, room)) (omega (arith, old_size h, inside)) (so_far.copied h k);
-}

@@ -12,7 +12,7 @@ written_on : (l xs ys : List ℕ) (from : ℕ) → from + length xs + length ys 
     → written (written l from xs) (from + length xs) ys ≡ written l from (xs ++ ys)
 written_on l xs ys from inside = same_lists _ _ (grind (arith, places)) (λ k d h. grind (arith, places))
 
-written_behind : (l xs ys : List ℕ) (from at : ℕ) → at ≡ from + length xs → at + length ys ≤ length l
+pub written_behind : (l xs ys : List ℕ) (from at : ℕ) → at ≡ from + length xs → at + length ys ≤ length l
     → written (written l from xs) at ys ≡ written l from (xs ++ ys)
 written_behind l xs ys from at is inside =
     ap (λ (n : ℕ). written (written l from xs) n ys) is ∙ written_on l xs ys from (omega (arith, is, inside))
@@ -70,21 +70,21 @@ whole_by_head xs ys rest gate kind = same_number_lists ys xs rest.same_length (�
     here (suc zero) = kind
     here (suc (suc k)) = rest.outside (suc (suc k)) (inr (omega arith))
 
-length_written : (l xs : List ℕ) (at : ℕ) → at + length xs ≤ length l → length (written l at xs) ≡ length l
+pub length_written : (l xs : List ℕ) (at : ℕ) → at + length xs ≤ length l → length (written l at xs) ≡ length l
 length_written l xs at inside = grind (arith, places)
 
-at_written : (l xs : List ℕ) (at k : ℕ) → at + length xs ≤ length l → at ≤ k → k < at + length xs
+pub at_written : (l xs : List ℕ) (at k : ℕ) → at + length xs ≤ length l → at ≤ k → k < at + length xs
     → get_or (written l at xs) k 0 ≡ get_or xs (k - at) 0
 at_written l xs at k inside behind before = grind (arith, places)
 
-before_written : (l xs : List ℕ) (at k : ℕ) → at + length xs ≤ length l → k < at → get_or (written l at xs) k 0 ≡ get_or l k 0
+pub before_written : (l xs : List ℕ) (at k : ℕ) → at + length xs ≤ length l → k < at → get_or (written l at xs) k 0 ≡ get_or l k 0
 before_written l xs at k inside before = grind (arith, places)
 
 behind_written : (l xs : List ℕ) (at k : ℕ) → at + length xs ≤ length l → at + length xs ≤ k → get_or (written l at xs) k 0 ≡ get_or l k 0
 behind_written l xs at k inside behind = grind (arith, places)
 
 -- zeros to the end
-zero_written : (l : List ℕ) (at size k : ℕ) → length l ≡ size → at ≤ size → at ≤ k → get_or (written l at (replicate (size - at) 0)) k 0 ≡ 0
+pub zero_written : (l : List ℕ) (at size k : ℕ) → length l ≡ size → at ≤ size → at ≤ k → get_or (written l at (replicate (size - at) 0)) k 0 ≡ 0
 zero_written l at size k long room behind = elim (cases_lt k size) [
   | inl less ↦
       at_written l (replicate (size - at) 0) at k (omega (arith, long, room, length-replicate {A = ℕ} (size - at) 0)) behind (omega (arith, less, length-replicate {A = ℕ} (size - at) 0))
@@ -100,7 +100,7 @@ zero_of_zeros size k = elim (cases_lt k size) [
   | inr past ↦ get_or_past {X = ℕ} (replicate size 0) k 0 (omega (arith, past, length-replicate {A = ℕ} size 0))
 ]
 
-length_to_end : (l : List ℕ) (at size : ℕ) → length l ≡ size → at ≤ size → length (written l at (replicate (size - at) 0)) ≡ size
+pub length_to_end : (l : List ℕ) (at size : ℕ) → length l ≡ size → at ≤ size → length (written l at (replicate (size - at) 0)) ≡ size
 length_to_end l at size long room =
     length_written l (replicate (size - at) 0) at (omega (arith, long, room, length-replicate {A = ℕ} (size - at) 0)) ∙ long
 

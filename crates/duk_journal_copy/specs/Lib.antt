@@ -1,3 +1,4 @@
+pub mod Version
 pub mod Blank
 pub mod Copy
 pub mod InPart

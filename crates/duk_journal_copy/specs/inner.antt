@@ -1,3 +1,5 @@
 pub mod Blank
+pub mod Convert
 pub mod Copy
 pub mod Head
+pub mod Rest

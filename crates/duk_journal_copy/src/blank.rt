@@ -1,21 +1,17 @@
-//! A journal that keeps nothing: zeros over all of a disk.
+//! Zeros over all of a disk.
 
-ghost use Rattle.std.specs.Prelude.{◌≡◌, ◌≤◌, [], replicate, IfErr, OnOk};
+ghost use Rattle.std.specs.Prelude.{◌≡◌, ◌≤◌, replicate, IfErr, OnOk};
 ghost use Rattle.duk_store.specs.Disk.{HasFailed, PreservesDisk};
 ghost use Rattle.duk_journal_copy.specs.Blank.{IsBlankWritten};
-ghost use Rattle.duk_journal_copy.specs.InPart.{LeavesInPart};
 ghost use Rattle.duk_journal_copy.specs.inner.Blank.{AreZerosKept, AreZerosWritten, LeavesOutside};
 
-use crate::head::{HEAD_LENGTH, Head, settle_head};
 use duk_store::{Disk, StoreFault};
 
 /// The bytes of a piece: what is written to a disk at once.
 pub const PIECE_LENGTH: usize = 65_536;
 
 /// Writes zeros over all bytes of a disk, whatever they were, a piece of zeros at a time, and syncs
-/// them. A journal over it keeps nothing then. The first two bytes, a gate and a kind, are settled
-/// last, once all behind them is synced: a disk that begins as that of no journal is none until its
-/// gate is closed.
+/// them. A log over it keeps nothing then.
 ///
 /// Refused with `Device` where a device step failed.
 pub fn write_blank<D: Disk>(disk: &mut D, zeros: &[u8]) -> Result<(), StoreFault>
@@ -24,15 +20,9 @@ pub fn write_blank<D: Disk>(disk: &mut D, zeros: &[u8]) -> Result<(), StoreFault
         (D.meaning.state_of disk.old) (D.meaning.state_of disk.new)) }
     ensures failed { IfErr result
         (HasFailed (D.meaning.state_of disk.old) (D.meaning.state_of disk.new)) }
-    ensures in_part { LeavesInPart []
-        (D.meaning.state_of disk.old) (D.meaning.state_of disk.new) }
 {
     let size = disk.size();
-    if size < HEAD_LENGTH {
-        return write_synced(disk, zeros, 0, size);
-    }
-    write_synced(disk, zeros, HEAD_LENGTH, size)?;
-    settle_head(disk, Head { gate: 0, kind: 0 })
+    write_synced(disk, zeros, 0, size)
 }
 
 /// Writes zeros over the bytes of a disk from one place to another, and syncs it.

@@ -1,57 +1,34 @@
-//! The head of a journal's disk: the gate of its first record, and the kind behind it. It is settled
-//! last, so that all the rest is whole before a disk can be taken for a journal.
+//! The head of a journal's disk: the first two bytes of its header, the gate of its first record and
+//! the byte behind it. It is settled last, so that all the rest is whole before a disk can be taken
+//! for a journal.
 
-ghost use Rattle.std.specs.Prelude.{◌≡◌, ◌+◌, ◌<◌, ◌≤◌, slice_index, IfErr, IfOk, OnErr, OnOk};
-ghost use Rattle.duk_store.specs.Disk.{DiffersWithin, HasFailed, LeavesChanged, LeavesWithin, PreservesBytes, PreservesDisk};
-ghost use Rattle.duk_journal_copy.specs.inner.Head.{IsByteSettled, IsHeadRead, IsHeadSettled, LeavesHeadInTurn};
+ghost use Rattle.std.specs.Prelude.{◌≡◌, ◌+◌, ◌<◌, ◌≤◌, slice_index, IfErr, OnErr, OnOk};
+ghost use Rattle.duk_store.specs.Disk.{DiffersWithin, HasFailed, LeavesChanged, LeavesWithin, PreservesDisk};
+ghost use Rattle.duk_journal_copy.specs.inner.Head.{IsByteSettled, IsHeadSettled, LeavesHeadInTurn};
 
 use duk_store::{Disk, StoreFault};
 
 /// The bytes of a head.
 pub(crate) const HEAD_LENGTH: u64 = 2;
 
-/// The gate of the first record, and its kind.
-#[derive(Clone, Copy)]
-pub(crate) struct Head {
-    pub(crate) gate: u8,
-    pub(crate) kind: u8,
-}
+/// The first two bytes of a header.
+const HEAD: [u8; 2] = [0x01, 0xD5];
 
-/// Reads the head of a disk.
-pub(crate) fn read_head<D: Disk>(disk: &mut D) -> Result<Head, StoreFault>
+/// Makes the head of a disk that of a header, and syncs it: first the gate, and then the byte behind
+/// it.
+pub(crate) fn settle_head<D: Disk>(disk: &mut D) -> Result<(), StoreFault>
     requires room { 2 ≤ (D.meaning.state_of disk.old).size }
-    ensures read { IfOk result (λ head. IsHeadRead head.gate head.kind
+    ensures settled { OnOk result (IsHeadSettled
         (D.meaning.state_of disk.old) (D.meaning.state_of disk.new)) }
     ensures failed { IfErr result
         (HasFailed (D.meaning.state_of disk.old) (D.meaning.state_of disk.new)) }
     ensures nature { PreservesDisk
         (D.meaning.state_of disk.old) (D.meaning.state_of disk.new) }
-    ensures bytes { PreservesBytes
+    ensures in_turn { LeavesHeadInTurn
         (D.meaning.state_of disk.old) (D.meaning.state_of disk.new) }
 {
-    let mut bytes = [0; HEAD_LENGTH as usize];
-    disk.read_at(0, &mut bytes)?;
-    Ok(Head {
-        gate: bytes[0],
-        kind: bytes[1],
-    })
-}
-
-/// Makes the head of a disk this one, and syncs it: first the gate, and then the kind. So a gate that
-/// is to be closed is closed before a torn kind behind it could be that of an entry.
-pub(crate) fn settle_head<D: Disk>(disk: &mut D, head: Head) -> Result<(), StoreFault>
-    requires room { 2 ≤ (D.meaning.state_of disk.old).size }
-    ensures settled { OnOk result (IsHeadSettled head.gate head.kind
-        (D.meaning.state_of disk.old) (D.meaning.state_of disk.new)) }
-    ensures failed { IfErr result
-        (HasFailed (D.meaning.state_of disk.old) (D.meaning.state_of disk.new)) }
-    ensures nature { PreservesDisk
-        (D.meaning.state_of disk.old) (D.meaning.state_of disk.new) }
-    ensures in_turn { LeavesHeadInTurn head.gate
-        (D.meaning.state_of disk.old) (D.meaning.state_of disk.new) }
-{
-    settle_byte(disk, 0, head.gate)?;
-    settle_byte(disk, 1, head.kind)
+    settle_byte(disk, 0, HEAD[0])?;
+    settle_byte(disk, 1, HEAD[1])
 }
 
 /// Makes a byte of a disk this one, and syncs it, where it is another. A right one is not written

@@ -1,4 +1,4 @@
-//! New journals: one that keeps nothing, and one that keeps what another does.
+//! New journals: one that keeps nothing, and one that keeps what another does, of either version.
 //!
 //! Every byte of a new disk is written, but for one of the first two that is right already, and all
 //! are synced. So nothing of what the medium held before is left, and a medium that has a place for
@@ -7,10 +7,15 @@
 //! wherever its writer is stopped, and also where the last write is torn.
 #![tactic(auto)]
 
+mod begin;
 mod blank;
+mod convert;
 mod copy;
 mod head;
 pub mod laws;
+mod version;
 
+pub use begin::write_journal;
 pub use blank::{PIECE_LENGTH, write_blank};
-pub use copy::{CopyFault, write_copy};
+pub use copy::{CopyFault, Kept, write_copy};
+pub use version::Version;

@@ -1,14 +1,15 @@
-//! Whether a host would come up over a journal.
+//! Whether a host would come up over the records of a journal, of whichever format.
 
-ghost use Rattle.std.specs.Prelude.{◌≡◌, IfErr, IfOk};
+ghost use Rattle.std.specs.Prelude.{◌≡◌, ◌≤◌, length, IfErr, IfOk};
+ghost use Rattle.duk_store.specs.DiskRecords.{records_meaning};
 ghost use Rattle.duk_journal_host.specs.Check.{CheckRefused, IsChecked};
 ghost use Rattle.duk_journal_host.specs.inner.Reading.{IsEntryRefused, TakesChecked};
 
 use crate::gathered::Gathered;
 use crate::reading::{fault_of, take_next};
 use duk_host::HostFault;
-use duk_journal::{CheckSum, Entry, Journal};
-use duk_store::{StoreFault, Visitor};
+use duk_journal::{CheckSum, Entry};
+use duk_store::{Disk, Format, Records, StoreFault, Visitor};
 use std::alloc::Global;
 
 /// What a journal keeps that was checked.
@@ -39,23 +40,35 @@ impl Visitor<Entry> for Checking {
     }
 }
 
-/// Brings a journal up and takes all its entries, as the restart of a host over it does, and gives
-/// how many there are, and their check sum. A host may judge by them then.
+/// Brings the records of a journal up and takes all its entries, as the restart of a host over it
+/// does, and gives how many there are, and their check sum. A host may judge by them then. `piece` is
+/// what the records are read into.
 ///
-/// Refused as that restart is: with `Store` of the journal's fault, or of `Damaged` where the number
+/// Refused as that restart is: with `Store` of the records' fault, or of `Damaged` where the number
 /// of an entry numbers no transaction, was used before or cannot have what was decided; and with
-/// `NoMemory`. The journal is stopped then.
-pub fn check_journal<J: Journal>(alloc: Global, journal: &mut J) -> Result<Checked, HostFault>
-    ensures checked { IfOk result (IsChecked J.meaning journal.old journal.new) }
-    ensures refused { IfErr result (CheckRefused J.meaning journal.old journal.new) }
-    ensures disarmed { J.meaning.disarmed journal.new }
-    ensures capacity { J.meaning.capacity journal.new ≡ J.meaning.capacity journal.old }
+/// `NoMemory`. The records are stopped then.
+pub fn check_records<D: Disk, F: Format<Item = Entry>>(
+    alloc: Global,
+    records: &mut Records<D, F>,
+    piece: &mut [u8],
+) -> Result<Checked, HostFault>
+    requires piece { (F.meaning records.old.format).record_length ≤ length piece.old }
+    ensures checked { IfOk result
+        (IsChecked (records_meaning D.meaning F.meaning) records.old records.new) }
+    ensures refused { IfErr result
+        (CheckRefused (records_meaning D.meaning F.meaning) records.old records.new) }
+    ensures disarmed { (records_meaning D.meaning F.meaning).disarmed records.new }
+    ensures capacity { (records_meaning D.meaning F.meaning).capacity records.new
+        ≡ (records_meaning D.meaning F.meaning).capacity records.old }
+    ensures size { (D.meaning.state_of records.new.disk).size
+        ≡ (D.meaning.state_of records.old.disk).size }
+    ensures format { records.new.format ≡ records.old.format }
 {
     let mut checking = Checking {
         gathered: Gathered::new(alloc),
         sum: CheckSum::new(),
     };
-    match journal.restart(&mut checking) {
+    match records.restart(piece, &mut checking) {
         Ok(count) => Ok(Checked {
             count,
             sum: checking.sum,

@@ -32,7 +32,7 @@ mod workspace;
 pub use answer::answer_together;
 pub use authentic::Purchase;
 pub use candidate::{Candidate, Judgement, judge_together};
-pub use check::{Checked, check_journal};
+pub use check::{Checked, check_records};
 pub use group::{Group, MOST_FRAMES};
 pub use host::JournalHost;
 pub use service::serve;

@@ -12,12 +12,13 @@ use Rattle.duk_config.specs.Opened.{keys_for}
 use Rattle.duk_config.specs.Settings.{Settings}
 use Rattle.duk_host.specs.Table.{CardTable, table_decision}
 use Rattle.duk_journal.specs.DiskJournal.{DiskJournalOf, disk_journal_meaning, new_disk_journal}
+use Rattle.duk_journal.specs.Header.{header_of, journal_kind}
 use Rattle.duk_journal.specs.Journal.{JournalMeaning}
 use Rattle.duk_journal.specs.RecordFormat.{record_length}
 use Rattle.duk_journal_host.specs.Host.{HostOf}
 use Rattle.duk_script.specs.OnDisk.{DiskCell, disk_cell_meaning, new_disk_cell}
 use Rattle.duk_store.specs.MemoryCell.{MemoryCell, memory_cell_meaning, new_cell}
-use Rattle.duk_store.specs.MemoryDisk.{MemoryDisk, memory_disk_meaning, new_disk}
+use Rattle.duk_store.specs.MemoryDisk.{MemoryDisk, memory_disk_meaning, new_disk_with}
 use Rattle.duk_tdes.specs.KeyBytes.{bytes_of}
 use Rattle.duk_term.specs.declared.state.State.TheVariants as terminal
 use Rattle.duk_till.specs.Till.{TillOf}
@@ -47,9 +48,11 @@ PlayJournal = DiskJournalOf MemoryDisk
 abbrev pub journal_meaning : JournalMeaning PlayJournal
 journal_meaning = disk_journal_meaning memory_disk_meaning
 
--- a journal as it is made over a new disk of so many records
+-- a journal as it is made over a new disk with a header and room for so many entries. Its identity is
+-- 0, as there is no other disk.
 abbrev pub new_journal : ℕ → PlayJournal
-new_journal records = new_disk_journal (new_disk (record_length * records))
+new_journal room =
+    new_disk_journal (new_disk_with (header_of journal_kind 0) (record_length * (1 + room)))
 
 -- the host of a configuration over this journal, as it is made: stopped
 abbrev pub new_host_over : {J : Type 0} → Settings → J → HostOf J CardTable

@@ -8,6 +8,7 @@ use Rattle.duk_components.specs.Fault.{component_fault_line}
 use Rattle.duk_io.specs.Known.{Known}
 use Rattle.duk_io.specs.Sink.{IsTried}
 use Rattle.duk_program.specs.Message.{text_fault_line}
+use Rattle.duk_program.specs.Random.{identity_line}
 use Rattle.duk_program.specs.Secrets.{secret_line}
 use Rattle.duk_program.specs.declared.fault.Fault.{Fault}
 use Rattle.duk_program.specs.declared.fault.Fault.TheVariants as fault
@@ -30,6 +31,7 @@ fault_text (fault.Text why) = text_fault_line why
 fault_text fault.ConfigUnread = codes "config: cannot read\n"
 fault_text (fault.Script why) = fault_line why
 fault_text (fault.Serve why) = serve_fault_line why
+fault_text (fault.Identity why) = identity_line why
 fault_text (fault.NewFile format why) = new_file_line format why
 fault_text (fault.CopyJournal why) = copy_journal_line why
 

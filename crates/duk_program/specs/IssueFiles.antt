@@ -15,6 +15,7 @@ use Rattle.duk_commands.specs.Order.{IsOrderOf, IsOrderRefused, OrderArguments, 
 use Rattle.duk_commands.specs.declared.issue.fault.IssueFault.{IssueFault}
 use Rattle.duk_commands.specs.declared.issue.fault.IssueFault.TheVariants as fault
 use Rattle.duk_commands.specs.declared.issue.order.Order.{Order}
+use Rattle.duk_program.specs.Random.{random_device}
 use Rattle.duk_service.specs.Files.{FileKnown, IsFrontRead, IsShorterThan}
 use Rattle.duk_service.specs.LogFiles.{AreLinesMade, AreNoLines, DiskKnown, LinesKnown, MakingKnown}
 use Rattle.duk_service.specs.OwnFiles.{IsNoOwnDisk, IsOwnDisk}
@@ -170,10 +171,6 @@ abbrev pub IsNotIssuedTo : {L D : Type 0} → LogMeaning L → (List ℕ → Mak
     → Option (List ℕ) → IssueTask → Issuing L → IssueFault → Type 0
 IsNotIssuedTo meaning making None = IsNotIssuedOver meaning
 IsNotIssuedTo meaning making (Some path) = IsNotIssuedToFile meaning (making path).lines
-
--- the system's random device
-abbrev pub random_device : List ℕ
-random_device = codes "/dev/urandom"
 
 -- what files make known of what `issue` needs of them: the system's random device, the disk of the
 -- ledger, and new files

@@ -11,9 +11,11 @@ pub mod Items
 pub mod Lmk
 pub mod Meant
 pub mod Message
+pub mod NewJournal
 pub mod Options
 pub mod Own
 pub mod Program
+pub mod Random
 pub mod References
 pub mod Refusal
 pub mod Roots

@@ -19,6 +19,8 @@ use Rattle.duk_program.specs.IssueFiles.{HasIssuedFiles, HasNotIssuedFiles, Issu
 use Rattle.duk_program.specs.Items.{AreOthersReady, AreOthersRefused, LineItems, command_of_line, items_of}
 use Rattle.duk_program.specs.Lmk.{HasNotPrintedLmk, HasPrintedLmk}
 use Rattle.duk_program.specs.Message.{HasUnreadText, IsMessage, message_of}
+use Rattle.duk_program.specs.NewJournal.{IsCopyMade, IsCopyUnmade, IsNewJournalMade, IsNewJournalUnmade}
+use Rattle.duk_program.specs.Random.{random_device}
 use Rattle.duk_program.specs.Refusal.{IsEndStatus}
 use Rattle.duk_program.specs.Roots.{IsBehindNote}
 use Rattle.duk_program.specs.RunFiles.{FileRun, HasNotRunFiles, HasRunFiles, file_run}
@@ -29,14 +31,12 @@ use Rattle.duk_program.specs.Show.{HasNotShownAsked, HasShownAsked}
 use Rattle.duk_program.specs.declared.fault.Fault.{Fault}
 use Rattle.duk_program.specs.declared.fault.Fault.TheVariants as fault
 use Rattle.duk_program.specs.declared.secrets.SecretFault.{SecretFault}
-use Rattle.duk_service.specs.CopyJournal.{HasCopiedJournal, IsCopyJournalRefused}
 use Rattle.duk_service.specs.Files.{FileKnown}
 use Rattle.duk_service.specs.LogFiles.{MakingKnown}
 use Rattle.duk_service.specs.NewFile.{HasMadeFile, IsNewFileRefused}
 use Rattle.duk_service.specs.Serve.{HasNothingServed, Serving}
-use Rattle.duk_service.specs.declared.copy_journal.CopyJournalFault.{CopyJournalFault}
-use Rattle.duk_service.specs.declared.left_records.RecordFormat.{RecordFormat}
-use Rattle.duk_service.specs.declared.left_records.RecordFormat.TheVariants.{Journal, Log}
+use Rattle.duk_service.specs.declared.left_records.RecordFormat.TheVariants as kind
+use Rattle.duk_service.specs.declared.new_file.NewFile.TheVariants.{Log}
 use Rattle.duk_service.specs.declared.new_file.NewFileFault.{NewFileFault}
 use Rattle.duk_store.specs.Disk.{DiskMeaning}
 
@@ -88,9 +88,9 @@ IsDoneUntold meaning s name.Run asked = HasLeftInput s.streams (HasRunFiles (run
 IsDoneUntold meaning s name.Serve asked = HasServedFiles meaning (service_in s asked)
 IsDoneUntold meaning s name.NewLog asked = IsIdle s
     (HasMadeFile Log meaning (new_in s asked) (text_in (codes "RECORDS") asked))
-IsDoneUntold meaning s name.NewJournal asked = IsIdle s
-    (HasMadeFile Journal meaning (new_in s asked) (text_in (codes "RECORDS") asked))
-IsDoneUntold meaning s name.CopyJournal asked = IsIdle s (HasCopiedJournal meaning
+IsDoneUntold meaning s name.NewJournal asked = IsIdle s (IsNewJournalMade meaning
+    (s.held random_device) (new_in s asked) (text_in (codes "RECORDS") asked))
+IsDoneUntold meaning s name.CopyJournal asked = IsIdle s (IsCopyMade meaning (s.held random_device)
     (s.disks (text_in (codes "OLD") asked)) (s.making (text_in (codes "NEW") asked)))
 IsDoneUntold meaning s name.Show asked = HasLeftInput s.streams (HasShownAsked asked
     (s.held (text_in (codes "WHAT") asked)) s.streams.output_before s.streams.output_after)
@@ -101,21 +101,13 @@ IsDoneUntold meaning s name.Data asked = IsDoneOverMessage s.held s.streams aske
 IsDoneUntold meaning s _ asked = HasLeftInput s.streams
     (IsCommandDone asked s.streams.output_before s.streams.output_after)
 
--- no log or journal is made, and nothing is read or printed
-pub record IsFileUnmade {D : Type 0} (format : RecordFormat) (meaning : DiskMeaning D) (s : Scene D)
-    (asked : Written) (why : Fault) : Type 0 where
-  pub cause : NewFileFault
-  pub why_is : why ≡ fault.NewFile format cause
-  pub refused : IsIdle s (IsNewFileRefused format meaning (new_in s asked)
-      (text_in (codes "RECORDS") asked) cause)
-
--- no journal is copied, and nothing is read or printed
-pub record IsUncopied {D : Type 0} (meaning : DiskMeaning D) (s : Scene D) (asked : Written)
+-- no log is made, and nothing is read or printed
+pub record IsLogUnmade {D : Type 0} (meaning : DiskMeaning D) (s : Scene D) (asked : Written)
     (why : Fault) : Type 0 where
-  pub cause : CopyJournalFault
-  pub why_is : why ≡ fault.CopyJournal cause
-  pub refused : IsIdle s (IsCopyJournalRefused meaning (s.disks (text_in (codes "OLD") asked))
-      (s.making (text_in (codes "NEW") asked)) cause)
+  pub cause : NewFileFault
+  pub why_is : why ≡ fault.NewFile kind.Log cause
+  pub refused : IsIdle s (IsNewFileRefused Log meaning (new_in s asked)
+      (text_in (codes "RECORDS") asked) cause)
 
 -- TEXT is read, and `mac` or `data` over it is not done
 pub record IsNotDoneOverRead (held : List ℕ → FileKnown) (s : Serving) (asked : Written) (why : Fault)
@@ -137,9 +129,12 @@ abbrev pub IsNotDoneUntold : {D : Type 0} → DiskMeaning D → Scene D → Comm
 IsNotDoneUntold meaning s name.Run asked why =
     HasLeftInput s.streams (HasNotRunFiles (run_in s asked) why)
 IsNotDoneUntold meaning s name.Serve asked why = HasNotServedFiles meaning (service_in s asked) why
-IsNotDoneUntold meaning s name.NewLog asked why = IsFileUnmade Log meaning s asked why
-IsNotDoneUntold meaning s name.NewJournal asked why = IsFileUnmade Journal meaning s asked why
-IsNotDoneUntold meaning s name.CopyJournal asked why = IsUncopied meaning s asked why
+IsNotDoneUntold meaning s name.NewLog asked why = IsLogUnmade meaning s asked why
+IsNotDoneUntold meaning s name.NewJournal asked why = IsIdle s (IsNewJournalUnmade meaning
+    (s.held random_device) (new_in s asked) (text_in (codes "RECORDS") asked) why)
+IsNotDoneUntold meaning s name.CopyJournal asked why = IsIdle s (IsCopyUnmade meaning
+    (s.held random_device) (s.disks (text_in (codes "OLD") asked))
+    (s.making (text_in (codes "NEW") asked)) why)
 IsNotDoneUntold meaning s name.Show asked why = HasLeftInput s.streams (HasNotShownAsked asked
     (s.held (text_in (codes "WHAT") asked)) s.streams.output_before why s.streams.output_after)
 IsNotDoneUntold meaning s name.Lmk asked why = HasLeftInput s.streams

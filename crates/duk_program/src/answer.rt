@@ -5,12 +5,14 @@ ghost use Rattle.duk_arguments.specs.Request.{text_in};
 ghost use Rattle.duk_io.specs.Known.{Known};
 ghost use Rattle.duk_io.specs.Sink.{IsHandedOn};
 ghost use Rattle.duk_program.specs.Meant.{AreAllAnswered, AreItemsDone, AreItemsNotDone, AreNotAllAnswered, IsAnswered, IsDoneAlone, IsDoneOverMessage, IsDoneUntold, IsNotAnswered, IsNotDoneAlone, IsNotDoneOverMessage, IsNotDoneUntold};
+ghost use Rattle.duk_program.specs.NewJournal.{IsCopyMade, IsCopyUnmade, IsNewJournalMade, IsNewJournalUnmade};
+ghost use Rattle.duk_program.specs.Random.{random_device};
 ghost use Rattle.duk_program.specs.Own.{MayUseOwn};
 ghost use Rattle.duk_program.specs.Scene.{scene};
 ghost use Rattle.duk_program.specs.declared.fault.Fault.TheVariants.{NewFile};
 ghost use Rattle.duk_program.specs.inner.Commands.{IsOverMessage, TellsNothing};
 ghost use Rattle.duk_program.specs.inner.Items.{items_in};
-ghost use Rattle.duk_service.specs.NewFile.{HasMadeFile, IsNewFileRefused};
+ghost use Rattle.duk_service.specs.NewFile.{HasMadeFile, IsNewFileRefused, format_of};
 ghost use Rattle.duk_service.specs.Serve.{serving_of};
 ghost use Rattle.duk_service.specs.declared.new_file.NewFileFault.{NewFileFault};
 
@@ -25,11 +27,12 @@ use crate::commands::{do_command, do_over_message};
 use crate::fault::Fault;
 use crate::items::{LineItems, line_command};
 use crate::message::read_message;
+use crate::random::draw_identity;
 use duk_commands::{BatchFault, do_batch, hand_on};
 use duk_io::{Sink, Source};
 use duk_service::copy_journal::copy_journal;
-use duk_service::new_file::new_file;
-use duk_service::{FileSystem, LogFiles, RecordFormat};
+use duk_service::new_file::{NewFile, new_file};
+use duk_service::{FileSystem, LogFiles};
 use std::alloc::Global;
 
 /// Does the command of a request, over each line of the input where an argument says so, and hands on
@@ -173,14 +176,9 @@ fn answer_untold<S: FileSystem + LogFiles, R: Source, W: Sink>(
             output,
         ),
         CommandName::Serve => serve_files(alloc, files, request, input, output),
-        CommandName::NewLog => make_file(alloc, files, RecordFormat::Log, request),
-        CommandName::NewJournal => make_file(alloc, files, RecordFormat::Journal, request),
-        CommandName::CopyJournal => {
-            match copy_journal(alloc, files, request.text("OLD"), request.text("NEW")) {
-                Ok(()) => Ok(()),
-                Err(why) => Err(Fault::CopyJournal(why)),
-            }
-        }
+        CommandName::NewLog => make_file(alloc, files, NewFile::Log, request),
+        CommandName::NewJournal => make_journal(alloc, files, request),
+        CommandName::CopyJournal => make_copy(alloc, files, request),
         CommandName::Show => show_asked(alloc, files, request, output),
         CommandName::Lmk => lmk_asked(alloc, request, output),
         CommandName::Mac | CommandName::Data => {
@@ -213,32 +211,84 @@ fn answer_message<S: FileSystem, R: Source, W: Sink>(
     do_over_message(alloc, request, message.as_slice(), output)
 }
 
+/// Makes the file of a journal, with an identity that is drawn first.
+fn make_journal<S: FileSystem + LogFiles>(
+    alloc: Global,
+    files: &S,
+    request: &Request<'_>,
+) -> Result<(), Fault>
+    requires { S.may_make files.now (text_in (codes "FILE") request.now) }
+    ensures made { OnOk result (IsNewJournalMade S.Disk.meaning
+        (S.held files.now random_device)
+        (S.making files.now (text_in (codes "FILE") request.now))
+        (text_in (codes "RECORDS") request.now)) }
+    ensures refused { IfErr result (IsNewJournalUnmade S.Disk.meaning
+        (S.held files.now random_device)
+        (S.making files.now (text_in (codes "FILE") request.now))
+        (text_in (codes "RECORDS") request.now)) }
+{
+    match draw_identity(alloc, files) {
+        Ok(identity) => make_file(alloc, files, NewFile::Journal { identity }, request),
+        Err(why) => Err(Fault::Identity(why)),
+    }
+}
+
+/// Makes the copy of a journal, with an identity that is drawn first.
+fn make_copy<S: FileSystem + LogFiles>(
+    alloc: Global,
+    files: &S,
+    request: &Request<'_>,
+) -> Result<(), Fault>
+    requires { S.may_make files.now (text_in (codes "NEW") request.now) }
+    ensures made { OnOk result (IsCopyMade S.Disk.meaning (S.held files.now random_device)
+        (S.disks files.now (text_in (codes "OLD") request.now))
+        (S.making files.now (text_in (codes "NEW") request.now))) }
+    ensures refused { IfErr result (IsCopyUnmade S.Disk.meaning (S.held files.now random_device)
+        (S.disks files.now (text_in (codes "OLD") request.now))
+        (S.making files.now (text_in (codes "NEW") request.now))) }
+{
+    let identity = match draw_identity(alloc, files) {
+        Ok(identity) => identity,
+        Err(why) => return Err(Fault::Identity(why)),
+    };
+    match copy_journal(
+        alloc,
+        files,
+        request.text("OLD"),
+        request.text("NEW"),
+        identity,
+    ) {
+        Ok(()) => Ok(()),
+        Err(why) => Err(Fault::CopyJournal(why)),
+    }
+}
+
 /// Makes the file of a log or a journal.
 fn make_file<S: LogFiles>(
     alloc: Global,
     files: &S,
-    format: RecordFormat,
+    new: NewFile,
     request: &Request<'_>,
 ) -> Result<(), Fault>
     requires { S.may_make files.now (text_in (codes "FILE") request.now) }
     ensures made { OnOk result
-        (HasMadeFile format S.Disk.meaning
+        (HasMadeFile new S.Disk.meaning
         (S.making files.now (text_in (codes "FILE") request.now))
         (text_in (codes "RECORDS") request.now)) }
     ensures refused { IfErr result (λ why. (cause : NewFileFault)
-        × (why ≡ NewFile format cause)
-        × IsNewFileRefused format S.Disk.meaning
+        × (why ≡ NewFile (format_of new) cause)
+        × IsNewFileRefused new S.Disk.meaning
         (S.making files.now (text_in (codes "FILE") request.now))
         (text_in (codes "RECORDS") request.now) cause) }
 {
     match new_file(
         alloc,
         files,
-        format,
+        new,
         request.text("FILE"),
         request.text("RECORDS"),
     ) {
         Ok(()) => Ok(()),
-        Err(why) => Err(Fault::NewFile(format, why)),
+        Err(why) => Err(Fault::NewFile(new.format(), why)),
     }
 }

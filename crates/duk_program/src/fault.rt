@@ -4,6 +4,7 @@ ghost use Rattle.duk_io.specs.Sink.{IsTried};
 ghost use Rattle.duk_program.specs.Fault.{fault_text};
 
 use crate::message::text_fault_line;
+use crate::random::IdentityFault;
 use crate::secrets::SecretFault;
 use duk_commands::issue::IssueFault;
 use duk_commands::{BatchFault, FindFault, tell};
@@ -42,6 +43,8 @@ pub enum Fault {
     Script(ScriptFault),
     /// Of `serve`.
     Serve(ServeFault),
+    /// Of the identity of a new journal.
+    Identity(IdentityFault),
     /// Of `new-log` and `new-journal`.
     NewFile(RecordFormat, NewFileFault),
     /// Of `copy-journal`.
@@ -66,6 +69,7 @@ impl Fault {
             Fault::ConfigUnread => tell(fault, b"config: cannot read\n"),
             Fault::Script(why) => print_fault(why, fault),
             Fault::Serve(why) => tell(fault, why.line().as_bytes()),
+            Fault::Identity(why) => tell(fault, why.line().as_bytes()),
             Fault::NewFile(format, why) => tell(fault, why.line(*format).as_bytes()),
             Fault::CopyJournal(why) => tell(fault, why.line().as_bytes()),
         }

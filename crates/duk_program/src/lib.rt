@@ -14,6 +14,7 @@ mod meant;
 mod message;
 mod options;
 mod program;
+mod random;
 mod references;
 mod secrets;
 mod shape;

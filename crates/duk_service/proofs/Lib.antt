@@ -1,6 +1,10 @@
 mod CopiedJournal
 mod LeftDisks
 mod Ended
+mod LeftFollowers
 mod LeftRecords
 mod Results
 mod OverDisks
+mod SeenDisks
+mod NewFiles
+mod FrontRecords

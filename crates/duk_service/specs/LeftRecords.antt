@@ -1,25 +1,37 @@
 -- Which bytes a log and a journal leave in their file, whenever they are stopped (this project's own).
 -- A file of records from which none of ours wrote is mostly none of these.
-use Rattle.std.specs.Prelude.{◌≡◌, ◌⊎◌, ◌≤◌, ◌<◌, ◌+◌, ◌*◌, ℕ, List, length, slice_index}
+use Rattle.std.specs.Prelude.{⊤, ◌≡◌, ◌⊎◌, ◌≤◌, ◌<◌, ◌+◌, ◌*◌, ℕ, zero, suc, List, length, slice_index}
 use Rattle.std.specs.Int.{from_be_bytes, w16}
 use Rattle.std.specs.List.{All}
 use Rattle.duk_store.specs.Disk.{range_of}
+use Rattle.duk_journal.specs.Groups.{HasContents}
+use Rattle.duk_journal.specs.Header.{IsHeader, journal_kind}
+use Rattle.duk_journal.specs.declared.entry.Entry.{Entry}
+use Rattle.duk_journal_copy.specs.declared.version.Version.{Version}
+use Rattle.duk_journal_copy.specs.declared.version.Version.TheVariants.{One, Two}
+use Rattle.duk_service.specs.declared.left_records.Layout.{Layout}
+use Rattle.duk_service.specs.declared.left_records.Layout.TheVariants.{Journal, Log}
 use Rattle.duk_service.specs.declared.left_records.RecordFormat.{RecordFormat}
-use Rattle.duk_service.specs.declared.left_records.RecordFormat.TheVariants.{Journal, Log}
+use Rattle.duk_service.specs.declared.left_records.RecordFormat.TheVariants as kind
+
+-- how the files that are written are laid out
+abbrev pub layout_of : RecordFormat → Layout
+layout_of kind.Log = Log
+layout_of kind.Journal = Journal Two
 
 -- the bytes of a record
-abbrev pub record_length : RecordFormat → ℕ
+abbrev pub record_length : Layout → ℕ
 record_length Log = 16
-record_length Journal = 32
+record_length (Journal version) = 32
 
 -- the most records that are appended together
-abbrev pub most_of_group : RecordFormat → ℕ
+abbrev pub most_of_group : Layout → ℕ
 most_of_group Log = 1
-most_of_group Journal = 4096
+most_of_group (Journal version) = 4096
 
 -- the record at a place, counted in records
-abbrev pub record_at : RecordFormat → ℕ → List ℕ → List ℕ
-record_at format place bytes = range_of (record_length format * place) (record_length format) bytes
+abbrev pub record_at : Layout → ℕ → List ℕ → List ℕ
+record_at layout place bytes = range_of (record_length layout * place) (record_length layout) bytes
 
 -- the gate of a record is its first byte, and it is open where that is 1
 abbrev pub gate_of : List ℕ → ℕ
@@ -32,55 +44,71 @@ IsOpen record_bytes = gate_of record_bytes ≡ 1
 abbrev pub IsZero : List ℕ → Type 0
 IsZero record_bytes = All (λ byte. byte ≡ 0) record_bytes
 
--- how many records an open one says to follow: none of a log, and of a journal so many as its third
--- byte and its fourth say
-abbrev pub followers_in : RecordFormat → List ℕ → ℕ
-followers_in Log record_bytes = 0
-followers_in Journal record_bytes = from_be_bytes w16 (range_of 2 2 record_bytes)
+-- how many records an open one at a place says to follow: none of a log, and none a header, and of a
+-- journal so many as its third byte and its fourth say
+abbrev pub followers_in : Layout → ℕ → List ℕ → ℕ
+followers_in Log place record_bytes = 0
+followers_in (Journal One) place record_bytes = from_be_bytes w16 (range_of 2 2 record_bytes)
+followers_in (Journal Two) zero record_bytes = 0
+followers_in (Journal Two) (suc place) record_bytes = from_be_bytes w16 (range_of 2 2 record_bytes)
+
+-- the first record of a journal of a version: in version 2 it is a header, which counts as a group by
+-- itself; in version 1 it is closed, or has contents
+abbrev pub IsFront : Version → List ℕ → Type 0
+IsFront One record_bytes =
+    IsOpen record_bytes → (followers : ℕ) × (entry : Entry) × HasContents followers entry record_bytes
+IsFront Two record_bytes = IsHeader journal_kind record_bytes
+
+-- the first record is such as the layout begins with
+abbrev pub HasFront : Layout → List ℕ → Type 0
+HasFront Log bytes = ⊤
+HasFront (Journal version) bytes = IsFront version (record_at (Journal version) 0 bytes)
 
 -- so many bytes are whole records, one at least
-abbrev pub IsWhole : RecordFormat → ℕ → Type 0
-IsWhole format size = (records : ℕ) × (1 ≤ records) × (size ≡ record_length format * records)
+abbrev pub IsWhole : Layout → ℕ → Type 0
+IsWhole layout size = (records : ℕ) × (1 ≤ records) × (size ≡ record_length layout * records)
 
 -- there are some, and they are none
-pub record IsCut (format : RecordFormat) (size : ℕ) : Type 0 where
+pub record IsCut (layout : Layout) (size : ℕ) : Type 0 where
   pub some : 0 < size
-  pub not_whole : ¬ IsWhole format size
+  pub not_whole : ¬ IsWhole layout size
 
 -- no record from this place on is open
-abbrev pub AreClosedFrom : RecordFormat → ℕ → List ℕ → Type 0
-AreClosedFrom format place bytes =
-    (later : ℕ) → place ≤ later → ¬ IsOpen (record_at format later bytes)
+abbrev pub AreClosedFrom : Layout → ℕ → List ℕ → Type 0
+AreClosedFrom layout place bytes =
+    (later : ℕ) → place ≤ later → ¬ IsOpen (record_at layout later bytes)
 
 -- a group of this many records in front ends with the last of them: its first one is the last that
 -- is open
-abbrev pub EndsLastGroup : RecordFormat → ℕ → List ℕ → Type 0
-EndsLastGroup format kept bytes =
-    (first : ℕ) × IsOpen (record_at format first bytes) × AreClosedFrom format (first + 1) bytes
-    × (kept ≡ first + 1 + followers_in format (record_at format first bytes))
+abbrev pub EndsLastGroup : Layout → ℕ → List ℕ → Type 0
+EndsLastGroup layout kept bytes =
+    (first : ℕ) × IsOpen (record_at layout first bytes) × AreClosedFrom layout (first + 1) bytes
+    × (kept ≡ first + 1 + followers_in layout first (record_at layout first bytes))
 
 -- so many records in front are in groups
-abbrev pub AreInGroups : RecordFormat → ℕ → List ℕ → Type 0
-AreInGroups format kept bytes =
-    ((kept ≡ 0) × AreClosedFrom format 0 bytes) ⊎ EndsLastGroup format kept bytes
+abbrev pub AreInGroups : Layout → ℕ → List ℕ → Type 0
+AreInGroups layout kept bytes =
+    ((kept ≡ 0) × AreClosedFrom layout 0 bytes) ⊎ EndsLastGroup layout kept bytes
 
 -- bytes that a log or a journal leaves. Behind the records that are in groups a stop leaves at most
 -- one group in part: of its first record any bytes, and of the others the gate as it was, a zero. All
 -- behind it is as it was made: zeros. A file of one record alone is zeros where none is kept, so that a
 -- key is no record that a stop left in part
-pub record IsLeftBy (format : RecordFormat) (bytes : List ℕ) : Type 0 where
-  pub whole : IsWhole format (length bytes)
+pub record IsLeftBy (layout : Layout) (bytes : List ℕ) : Type 0 where
+  pub whole : IsWhole layout (length bytes)
+  pub front : HasFront layout bytes
   pub kept : ℕ
-  pub groups : AreInGroups format kept bytes
-  pub gates : (place : ℕ) → kept < place → gate_of (record_at format place bytes) ≡ 0
-  pub zeros : (place : ℕ) → kept + most_of_group format ≤ place
-      → IsZero (record_at format place bytes)
-  pub lone : length bytes ≡ record_length format → kept ≡ 0 → IsZero (record_at format 0 bytes)
+  pub groups : AreInGroups layout kept bytes
+  pub gates : (place : ℕ) → kept < place → gate_of (record_at layout place bytes) ≡ 0
+  pub zeros : (place : ℕ) → kept + most_of_group layout ≤ place
+      → IsZero (record_at layout place bytes)
+  pub lone : length bytes ≡ record_length layout → kept ≡ 0 → IsZero (record_at layout 0 bytes)
 
--- bytes that neither leaves, of which the record at this place is neither open nor zero, and all behind
--- it are zeros
-pub record IsForeignAt (format : RecordFormat) (place : ℕ) (bytes : List ℕ) : Type 0 where
-  pub not_left : ¬ IsLeftBy format bytes
-  pub not_open : ¬ IsOpen (record_at format place bytes)
-  pub not_zero : ¬ IsZero (record_at format place bytes)
-  pub last : (later : ℕ) → place < later → IsZero (record_at format later bytes)
+-- bytes that begin as the layout does and that neither leaves, of which the record at this place is
+-- neither open nor zero, and all behind it are zeros
+pub record IsForeignAt (layout : Layout) (place : ℕ) (bytes : List ℕ) : Type 0 where
+  pub front : HasFront layout bytes
+  pub not_left : ¬ IsLeftBy layout bytes
+  pub not_open : ¬ IsOpen (record_at layout place bytes)
+  pub not_zero : ¬ IsZero (record_at layout place bytes)
+  pub last : (later : ℕ) → place < later → IsZero (record_at layout later bytes)

@@ -1,20 +1,26 @@
 -- What `new-log` and `new-journal` make (this project's own).
-use Rattle.std.specs.Prelude.{⊤, ◌≢◌, ◌≡◌, ◌≤◌, ◌*◌, ◌⊎◌, ℕ, List, [], codes}
+use Rattle.std.specs.Prelude.{⊤, ◌≢◌, ◌≡◌, ◌≤◌, ◌+◌, ◌*◌, ◌⊎◌, ℕ, List, [], codes}
 use Rattle.duk_commands.specs.Decimal.{IsDecimal}
-use Rattle.duk_journal_copy.specs.Blank.{IsBlankWritten}
+use Rattle.duk_journal_copy.specs.Blank.{IsBlankWritten, IsJournalBegun}
 use Rattle.duk_journal_copy.specs.InPart.{IsNoJournal}
-use Rattle.duk_journal.specs.DiskJournal.{IsZeroJournalDisk}
-use Rattle.duk_journal.specs.Groups.{Entries, KeepsEntries}
+use Rattle.duk_journal.specs.DiskJournal.{IsFreshJournalDisk}
+use Rattle.duk_journal.specs.Groups.{Entries, KeepsChecked}
 use Rattle.duk_journal.specs.RecordFormat.{IsJournalSize}
-use Rattle.duk_service.specs.LeftRecords.{record_length}
 use Rattle.duk_service.specs.LogFiles.{IsDisk, IsFolderSynced, IsFolderUnsynced, IsNoDisk, MakingKnown}
 use Rattle.duk_service.specs.declared.left_records.RecordFormat.{RecordFormat}
-use Rattle.duk_service.specs.declared.left_records.RecordFormat.TheVariants.{Journal, Log}
+use Rattle.duk_service.specs.declared.left_records.RecordFormat.TheVariants as kind
+use Rattle.duk_service.specs.declared.new_file.NewFile.{NewFile}
+use Rattle.duk_service.specs.declared.new_file.NewFile.TheVariants.{Journal, Log}
 use Rattle.duk_service.specs.declared.new_file.NewFileFault.{NewFileFault}
 use Rattle.duk_service.specs.declared.new_file.NewFileFault.TheVariants as fault
 use Rattle.duk_store.specs.Disk.{DiskMeaning, DiskState, HasFailed}
 use Rattle.duk_store.specs.DiskLog.{IsZeroLogDisk}
 use Rattle.duk_store.specs.declared.fault.StoreFault.TheVariants.{Device}
+
+-- what the records of a new file are
+abbrev pub format_of : NewFile → RecordFormat
+format_of Log = kind.Log
+format_of (Journal identity) = kind.Journal
 
 -- the most records of which a log or a journal may be made
 abbrev pub most_records : ℕ
@@ -25,46 +31,52 @@ pub record IsRecordCount (text : List ℕ) (records : ℕ) : Type 0 where
   pub decimal : IsDecimal most_records text records
   pub some : 1 ≤ records
 
--- the bytes of a log or a journal with room for so many
-abbrev pub file_size : RecordFormat → ℕ → ℕ
-file_size format records = record_length format * records
+-- the bytes of a log or a journal with room for so many: in front of a journal's stands a header
+abbrev pub file_size : NewFile → ℕ → ℕ
+file_size Log records = 16 * records
+file_size (Journal identity) records = 32 * (1 + records)
+
+-- what is written over all of a disk: zeros, or a header and zeros
+abbrev pub IsWrittenAnew : NewFile → DiskState → DiskState → Type 0
+IsWrittenAnew Log made last = IsBlankWritten made last
+IsWrittenAnew (Journal identity) made last = IsJournalBegun identity made last
 
 -- a disk on which a log keeps nothing, or a journal
-abbrev pub IsZeroDisk : RecordFormat → DiskState → Type 0
-IsZeroDisk Log disk = IsZeroLogDisk disk
-IsZeroDisk Journal disk = IsZeroJournalDisk disk
+abbrev pub KeepsNothingYet : NewFile → DiskState → Type 0
+KeepsNothingYet Log disk = IsZeroLogDisk disk
+KeepsNothingYet (Journal identity) disk = IsFreshJournalDisk identity disk
 
--- a file of this size is made, zeros are written over all of its disk and synced, and its folder is
--- synced; where the disk is honest, nothing is kept there
-pub record IsBlankMade (format : RecordFormat) {D : Type 0} (meaning : DiskMeaning D)
+-- a file of this size is made, its disk is written anew and synced, and its folder is synced; where the
+-- disk is honest, nothing is kept there
+pub record IsBlankMade (new : NewFile) {D : Type 0} (meaning : DiskMeaning D)
     (known : MakingKnown D) (size : ℕ) : Type 0 where
   pub made : D
   pub last : D
   pub is_made : IsDisk (known.disk size) made
   pub size_is : (meaning.state_of made).size ≡ size
-  pub written : IsBlankWritten (meaning.state_of made) (meaning.state_of last)
-  pub blank : (meaning.state_of made).honest → IsZeroDisk format (meaning.state_of last)
+  pub written : IsWrittenAnew new (meaning.state_of made) (meaning.state_of last)
+  pub blank : (meaning.state_of made).honest → KeepsNothingYet new (meaning.state_of last)
   pub folder : IsFolderSynced known.folder
 
 -- what `new-log` and `new-journal` make
-pub record HasMadeFile (format : RecordFormat) {D : Type 0} (meaning : DiskMeaning D)
+pub record HasMadeFile (new : NewFile) {D : Type 0} (meaning : DiskMeaning D)
     (known : MakingKnown D) (text : List ℕ) : Type 0 where
   pub records : ℕ
   pub asked : IsRecordCount text records
-  pub made : IsBlankMade format meaning known (file_size format records)
+  pub made : IsBlankMade new meaning known (file_size new records)
 
 -- these entries were to be written over a disk that was made for a journal: whenever it is stopped,
 -- what is left of it is no journal, or keeps them
 abbrev pub IsNoneOrWhole : Entries → DiskState → DiskState → Type 0
 IsNoneOrWhole entries made last =
     made.honest → IsJournalSize made.size → (bytes : List ℕ) → last.may_leave bytes
-    → IsNoJournal bytes ⊎ KeepsEntries bytes entries
+    → IsNoJournal bytes ⊎ KeepsChecked bytes entries
 
 -- what may be left of a disk that is made in part: of a journal's no journal, or one that keeps
 -- nothing. A log's is zeros from its making on, which zeros are written over: nothing is said of it
-abbrev pub IsLeftInPart : RecordFormat → DiskState → DiskState → Type 0
+abbrev pub IsLeftInPart : NewFile → DiskState → DiskState → Type 0
 IsLeftInPart Log made last = ⊤
-IsLeftInPart Journal made last = IsNoneOrWhole [] made last
+IsLeftInPart (Journal identity) made last = IsNoneOrWhole [] made last
 
 -- a file is made, and has another size, or a step of it failed, or its folder cannot be synced; what
 -- may be left of it is as this says of its disk, as it was made and as it was last
@@ -85,24 +97,24 @@ IsUnmade meaning known size left =
     IsNoDisk (known.disk size) ⊎ IsMadeInPart meaning known size left
 
 -- a log or a journal of so many records as a text says is not made
-pub record IsFileUnmade (format : RecordFormat) {D : Type 0} (meaning : DiskMeaning D)
+pub record IsFileUnmade (new : NewFile) {D : Type 0} (meaning : DiskMeaning D)
     (known : MakingKnown D) (text : List ℕ) : Type 0 where
   pub records : ℕ
   pub asked : IsRecordCount text records
-  pub unmade : IsUnmade meaning known (file_size format records) (IsLeftInPart format)
+  pub unmade : IsUnmade meaning known (file_size new records) (IsLeftInPart new)
 
 -- why none is made; memory may be refused at any time once the number is read
-abbrev pub IsNewFileRefused : RecordFormat → {D : Type 0} → DiskMeaning D → MakingKnown D → List ℕ
+abbrev pub IsNewFileRefused : NewFile → {D : Type 0} → DiskMeaning D → MakingKnown D → List ℕ
     → NewFileFault → Type 0
-IsNewFileRefused format meaning known text fault.RecordsRefused =
+IsNewFileRefused new meaning known text fault.RecordsRefused =
     (records : ℕ) → ¬ IsRecordCount text records
-IsNewFileRefused format meaning known text fault.Unmade = IsFileUnmade format meaning known text
-IsNewFileRefused format meaning known text fault.OutOfMemory =
+IsNewFileRefused new meaning known text fault.Unmade = IsFileUnmade new meaning known text
+IsNewFileRefused new meaning known text fault.OutOfMemory =
     (records : ℕ) × IsRecordCount text records
 
 -- the line of a fault, LF at its end
 abbrev pub new_file_line : RecordFormat → NewFileFault → List ℕ
 new_file_line format fault.RecordsRefused = codes "records refused\n"
-new_file_line Log fault.Unmade = codes "log: cannot make\n"
-new_file_line Journal fault.Unmade = codes "journal: cannot make\n"
+new_file_line kind.Log fault.Unmade = codes "log: cannot make\n"
+new_file_line kind.Journal fault.Unmade = codes "journal: cannot make\n"
 new_file_line format fault.OutOfMemory = codes "out of memory\n"

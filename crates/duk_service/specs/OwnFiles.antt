@@ -1,10 +1,14 @@
 -- The ways to open the file of a log or a journal (this project's own).
-use Rattle.std.specs.Prelude.{◌≡◌, ◌⊎◌, None, Option, Some}
+use Rattle.std.specs.Prelude.{◌≡◌, ◌⊎◌, List, None, Option, Some, ℕ}
+use Rattle.duk_journal_copy.specs.declared.version.Version.{Version}
+use Rattle.duk_journal_copy.specs.declared.version.Version.TheVariants.{One, Two}
 use Rattle.duk_service.specs.declared.reason.Strange.{Strange}
 use Rattle.duk_service.specs.declared.reason.Strange.TheVariants as strange
-use Rattle.duk_service.specs.LeftRecords.{IsCut, IsForeignAt, IsLeftBy}
+use Rattle.duk_service.specs.LeftRecords.{HasFront, IsCut, IsForeignAt, IsLeftBy, layout_of}
 use Rattle.duk_service.specs.LogFiles.{DiskKnown, IsDisk, IsNoDisk}
+use Rattle.duk_service.specs.declared.left_records.Layout.TheVariants as layout
 use Rattle.duk_service.specs.declared.left_records.RecordFormat.{RecordFormat}
+use Rattle.duk_service.specs.declared.left_records.RecordFormat.TheVariants.{Journal, Log}
 use Rattle.duk_service.specs.declared.own_files.OpenFault.{OpenFault}
 use Rattle.duk_service.specs.declared.own_files.OpenFault.TheVariants as fault
 use Rattle.duk_store.specs.Disk.{DiskMeaning, DiskState, HasFailed, PreservesBytes, PreservesDisk, StaysArmed}
@@ -24,31 +28,85 @@ pub record IsReadDisk {D : Type 0} (meaning : DiskMeaning D) (known : DiskKnown 
   pub only_read : IsOnlyRead (meaning.state_of opened) (meaning.state_of disk)
   pub is : Is (meaning.state_of opened) (meaning.state_of disk)
 
--- where it is honest, its bytes are such as a log or a journal leaves
+-- ---- journals of either version
+
+-- bytes are such as a journal of a version leaves. Those with a header are none of version 1
+abbrev pub IsJournalOf : Version → List ℕ → Type 0
+IsJournalOf One bytes =
+    (¬ HasFront (layout.Journal Two) bytes) × IsLeftBy (layout.Journal One) bytes
+IsJournalOf Two bytes = IsLeftBy (layout.Journal Two) bytes
+
+-- where the file's disk is honest, its bytes are such
+abbrev pub IsJournalDisk : Version → {D : Type 0} → DiskMeaning D → DiskKnown D → D → Type 0
+IsJournalDisk version meaning known disk = IsReadDisk meaning known
+    (λ old new. new.honest → IsJournalOf version new.reads) disk
+
+-- why none is opened
+abbrev pub IsNoJournalDisk : {D : Type 0} → DiskMeaning D → DiskKnown D → OpenFault → Type 0
+IsNoJournalDisk meaning known fault.Unopened = IsNoDisk known
+IsNoJournalDisk {D} meaning known fault.Failed =
+    (disk : D) × IsReadDisk meaning known (λ old new. HasFailed old new Device) disk
+IsNoJournalDisk {D} meaning known fault.Foreign =
+    (disk : D) × IsReadDisk meaning known (λ old new. new.honest → (version : Version)
+    → ¬ IsJournalOf version new.reads) disk
+IsNoJournalDisk meaning known fault.OldVersion = ⊥
+
+-- ---- those of a service
+
+-- bytes are such as a log leaves, or a journal of version 2
+abbrev pub IsOwn : RecordFormat → List ℕ → Type 0
+IsOwn format bytes = IsLeftBy (layout_of format) bytes
+
+-- where the file's disk is honest, its bytes are such
 abbrev pub IsOwnDisk : RecordFormat → {D : Type 0} → DiskMeaning D → DiskKnown D → D → Type 0
 IsOwnDisk format meaning known disk = IsReadDisk meaning known
-    (λ old new. new.honest → IsLeftBy format new.reads) disk
+    (λ old new. new.honest → IsOwn format new.reads) disk
+
+-- why a disk that was read is none of these
+abbrev pub IsNotOwn : RecordFormat → DiskState → DiskState → OpenFault → Type 0
+IsNotOwn format old new fault.Unopened = ⊥
+IsNotOwn format old new fault.Failed = HasFailed old new Device
+IsNotOwn format old new fault.Foreign = new.honest → ¬ IsOwn format new.reads
+IsNotOwn Log old new fault.OldVersion = ⊥
+IsNotOwn Journal old new fault.OldVersion = new.honest → IsJournalOf One new.reads
 
 -- why none is opened; nothing is written then
 abbrev pub IsNoOwnDisk : RecordFormat → {D : Type 0} → DiskMeaning D → DiskKnown D → OpenFault
     → Type 0
 IsNoOwnDisk format meaning known fault.Unopened = IsNoDisk known
-IsNoOwnDisk format {D} meaning known fault.Failed =
-    (disk : D) × IsReadDisk meaning known (λ old new. HasFailed old new Device) disk
-IsNoOwnDisk format {D} meaning known fault.Foreign =
-    (disk : D) × IsReadDisk meaning known
-    (λ old new. new.honest → ¬ IsLeftBy format new.reads) disk
+IsNoOwnDisk format {D} meaning known why =
+    (disk : D) × IsReadDisk meaning known (λ old new. IsNotOwn format old new why) disk
+
+-- ---- what a file is seen to be
+
+-- bytes are such as a log leaves, or a journal of either version
+abbrev pub IsEither : RecordFormat → List ℕ → Type 0
+IsEither Log bytes = IsOwn Log bytes
+IsEither Journal bytes = (version : Version) × IsJournalOf version bytes
+
+-- they are not, and the record at this place is neither open nor zero, and all behind it are zeros
+abbrev pub IsStrangeAt : RecordFormat → ℕ → List ℕ → Type 0
+IsStrangeAt Log place bytes = IsForeignAt layout.Log place bytes
+IsStrangeAt Journal place bytes = IsForeignAt (layout.Journal Two) place bytes
+    ⊎ ((¬ HasFront (layout.Journal Two) bytes) × IsForeignAt (layout.Journal One) place bytes)
 
 -- what a disk is seen to be that is that of no log or journal
 abbrev pub IsStrange : RecordFormat → DiskState → Strange → Type 0
 IsStrange format disk strange.Empty = disk.size ≡ 0
-IsStrange format disk (strange.Record place) = disk.honest → IsForeignAt format place disk.reads
+IsStrange format disk (strange.Record place) = disk.honest → IsStrangeAt format place disk.reads
 
--- it is not: a step of it failed, or its bytes are not whole records, or such as a log or a journal
--- leaves
+-- bytes begin as no journal does
+abbrev pub BeginAsNone : RecordFormat → List ℕ → Type 0
+BeginAsNone Log bytes = ⊥
+BeginAsNone Journal bytes = (version : Version) → ¬ HasFront (layout.Journal version) bytes
+
+-- it is not: a step of it failed, or its bytes are not whole records, or begin as those of none, or are
+-- such as a log or a journal leaves
 abbrev pub IsNotStrange : RecordFormat → DiskState → DiskState → Type 0
 IsNotStrange format old new =
-    HasFailed old new Device ⊎ IsCut format new.size ⊎ (new.honest → IsLeftBy format new.reads)
+    HasFailed old new Device ⊎ IsCut (layout_of format) new.size
+    ⊎ (new.honest → BeginAsNone format new.reads)
+    ⊎ (new.honest → IsEither format new.reads)
 
 -- the file's disk can be opened, and is seen to be that; or it is not, or cannot be opened
 abbrev pub IsLookedAt : RecordFormat → {D : Type 0} → DiskMeaning D → DiskKnown D → Option Strange

@@ -8,7 +8,7 @@ use Rattle.duk_service.specs.Serve.{serve_line}
 use Rattle.duk_service.specs.declared.left_records.RecordFormat.{RecordFormat}
 use Rattle.duk_service.specs.declared.left_records.RecordFormat.TheVariants.{Journal, Log}
 use Rattle.duk_service.specs.declared.own_files.OpenFault.{OpenFault}
-use Rattle.duk_service.specs.declared.own_files.OpenFault.TheVariants.{Unopened}
+use Rattle.duk_service.specs.declared.own_files.OpenFault.TheVariants.{OldVersion, Unopened}
 use Rattle.duk_service.specs.declared.serve_fault.ServeFault.{ServeFault}
 use Rattle.duk_service.specs.declared.serve_fault.ServeFault.TheVariants as fault
 
@@ -17,10 +17,12 @@ abbrev pub store_line : RecordFormat → List ℕ
 store_line Log = codes "log: failed\n"
 store_line Journal = codes "journal: failed\n"
 
--- the line where the file of one is not opened: one that no log or journal leaves is as a damaged one
+-- the line where the file of one is not opened: one that no log or journal leaves is as a damaged
+-- one, and one that a journal of version 1 leaves is to be copied
 abbrev pub open_line : RecordFormat → OpenFault → List ℕ
 open_line Log Unopened = codes "log: cannot open\n"
 open_line Journal Unopened = codes "journal: cannot open\n"
+open_line Journal OldVersion = codes "journal: version 1, use copy-journal\n"
 open_line format _ = store_line format
 
 -- the line of the fault of a host over one

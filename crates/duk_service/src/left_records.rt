@@ -2,31 +2,56 @@
 
 ghost use Rattle.std.specs.Prelude.{◌≡◌, ◌+◌, ◌*◌, ◌<◌, ◌≤◌, ◌^◌, ◌↔◌, ℕ, IsFalse, IsTrue, IfErr, IfOk, OnOk, length};
 ghost use Rattle.duk_store.specs.Disk.{HasFailed, PreservesBytes, PreservesDisk, StaysArmed};
-ghost use Rattle.duk_service.specs.LeftRecords.{most_of_group, record_length};
-ghost use Rattle.duk_service.specs.inner.LeftRecords.{AreFollowersRead, AreKeptCounted, HasMark, IsBefore, IsLastIn, IsLastOn, IsSeen, LacksMark, MayStand};
+ghost use Rattle.duk_journal_copy.specs.declared.version.Version.TheVariants.{Two as VersionTwo};
+ghost use Rattle.duk_service.specs.LeftRecords.{HasFront, IsFront, layout_of, most_of_group, record_length};
+ghost use Rattle.duk_service.specs.inner.LeftRecords.{AreFollowersRead, AreKeptCounted, HasMark, IsBefore, IsFrontSeen, IsLastIn, IsLastOn, IsSeen, LacksMark, MayStand};
 
+use duk_journal::{OPEN, RECORD_LENGTH, contents_of_record, is_journal_header};
+use duk_journal_copy::Version;
 use duk_store::{Disk, StoreFault};
 
 /// The bytes of a piece, of which a disk is read at once.
 const PIECE_LENGTH: usize = 65_536;
 
-/// A format of records, which a file is of.
+/// What a file of records is of.
 #[derive(Clone, Copy, Debug, PartialEq, Eq)]
 pub enum RecordFormat {
-    /// A log of numbers, or a ledger: records of 16 bytes, each a group by itself.
+    /// A log of numbers, or a ledger.
     Log,
-    /// A journal: records of 32 bytes, in groups of at most 4,096.
+    /// A journal.
     Journal,
 }
 
 impl RecordFormat {
+    /// How the files that are written are laid out.
+    pub(crate) fn layout(self) -> Layout
+        ensures { result ≡ layout_of self }
+    {
+        match self {
+            RecordFormat::Log => Layout::Log,
+            RecordFormat::Journal => Layout::Journal(Version::Two),
+        }
+    }
+}
+
+/// How the records of a file are laid out.
+#[derive(Clone, Copy, Debug, PartialEq, Eq)]
+pub enum Layout {
+    /// Records of 16 bytes, each a group by itself.
+    Log,
+    /// Those of a journal of a version: records of 32 bytes, in groups of at most 4,096. In version 2
+    /// a header stands in front of them.
+    Journal(Version),
+}
+
+impl Layout {
     /// The bytes of a record.
     pub(crate) fn record_length(self) -> usize
         ensures { result ≡ record_length self }
     {
         match self {
-            RecordFormat::Log => 16,
-            RecordFormat::Journal => 32,
+            Layout::Log => 16,
+            Layout::Journal(_) => 32,
         }
     }
 
@@ -35,8 +60,8 @@ impl RecordFormat {
         ensures { record_length self * result ≡ 65536 }
     {
         match self {
-            RecordFormat::Log => 4096,
-            RecordFormat::Journal => 2048,
+            Layout::Log => 4096,
+            Layout::Journal(_) => 2048,
         }
     }
 
@@ -45,8 +70,8 @@ impl RecordFormat {
         ensures { result ≡ most_of_group self }
     {
         match self {
-            RecordFormat::Log => 1,
-            RecordFormat::Journal => 4096,
+            Layout::Log => 1,
+            Layout::Journal(_) => 4096,
         }
     }
 }
@@ -86,6 +111,8 @@ pub enum Seen {
     Empty,
     /// Not whole records.
     Cut,
+    /// Whole records, of which the first is not such as the layout begins with.
+    OtherFront,
     /// Such as neither leaves: the record at this place, from 0, is neither open nor zero.
     Foreign(u64),
 }
@@ -94,15 +121,17 @@ pub enum Seen {
 /// record is read, from the end on, and little before it.
 ///
 /// Refused with `Device` where a device step failed.
-pub fn look_at<D: Disk>(disk: &mut D, format: RecordFormat) -> Result<Seen, StoreFault>
-    ensures seen { IfOk result (IsSeen format (D.meaning.state_of disk.new)) }
+pub fn look_at<D: Disk>(disk: &mut D, layout: Layout) -> Result<Seen, StoreFault>
+    ensures seen { IfOk result (IsSeen layout (D.meaning.state_of disk.new)) }
     ensures nature { PreservesDisk (D.meaning.state_of disk.old) (D.meaning.state_of disk.new) }
     ensures arming { StaysArmed (D.meaning.state_of disk.old) (D.meaning.state_of disk.new) }
     ensures bytes { PreservesBytes (D.meaning.state_of disk.old) (D.meaning.state_of disk.new) }
+    ensures no_failure { OnOk result
+        ((D.meaning.state_of disk.new).failures ≡ (D.meaning.state_of disk.old).failures) }
     ensures failed { IfErr result
         (HasFailed (D.meaning.state_of disk.old) (D.meaning.state_of disk.new)) }
 {
-    let length = format.record_length() as u64;
+    let length = layout.record_length() as u64;
     let size = disk.size();
     if size == 0 {
         return Ok(Seen::Empty);
@@ -110,32 +139,73 @@ pub fn look_at<D: Disk>(disk: &mut D, format: RecordFormat) -> Result<Seen, Stor
     if size % length != 0 {
         return Ok(Seen::Cut);
     }
-    look_at_records(disk, format, size / length)
+    if !has_front(disk, layout)? {
+        return Ok(Seen::OtherFront);
+    }
+    look_at_records(disk, layout, size / length)
 }
 
-/// The same of a disk of so many records.
-fn look_at_records<D: Disk>(
-    disk: &mut D,
-    format: RecordFormat,
-    records: u64,
-) -> Result<Seen, StoreFault>
-    requires some { 1 ≤ records }
-    requires size { (D.meaning.state_of disk.old).size ≡ record_length format * records }
-    requires fits { (D.meaning.state_of disk.old).size < 2 ^ 64 }
-    ensures seen { IfOk result (IsSeen format (D.meaning.state_of disk.new)) }
+/// Whether the first record of a disk is such as the layout begins with.
+fn has_front<D: Disk>(disk: &mut D, layout: Layout) -> Result<bool, StoreFault>
+    requires inside { record_length layout ≤ (D.meaning.state_of disk.old).size }
+    ensures seen { IfOk result (IsFrontSeen layout (D.meaning.state_of disk.new)) }
     ensures nature { PreservesDisk (D.meaning.state_of disk.old) (D.meaning.state_of disk.new) }
     ensures arming { StaysArmed (D.meaning.state_of disk.old) (D.meaning.state_of disk.new) }
     ensures bytes { PreservesBytes (D.meaning.state_of disk.old) (D.meaning.state_of disk.new) }
+    ensures no_failure { OnOk result
+        ((D.meaning.state_of disk.new).failures ≡ (D.meaning.state_of disk.old).failures) }
     ensures failed { IfErr result
         (HasFailed (D.meaning.state_of disk.old) (D.meaning.state_of disk.new)) }
 {
-    let last = match find_last(disk, format, Mark::Used, records)? {
+    match layout {
+        Layout::Log => Ok(true),
+        Layout::Journal(version) => {
+            let mut first = [0; RECORD_LENGTH];
+            disk.read_at(0, &mut first)?;
+            Ok(is_front(version, &first))
+        }
+    }
+}
+
+/// Whether the first record of a journal of a version is such: in version 2 it is a header; in version
+/// 1 it is closed, or has contents.
+fn is_front(version: Version, first: &[u8]) -> bool
+    requires { length first.now ≡ 32 }
+    ensures { IsTrue result ↔ IsFront version first.now }
+{
+    match version {
+        Version::One => first[0] != OPEN || contents_of_record(first).is_some(),
+        Version::Two => is_journal_header(first),
+    }
+}
+
+/// The same of a disk of so many records, of which the first is such as the layout begins with.
+fn look_at_records<D: Disk>(
+    disk: &mut D,
+    layout: Layout,
+    records: u64,
+) -> Result<Seen, StoreFault>
+    requires some { 1 ≤ records }
+    requires front { (D.meaning.state_of disk.old).honest
+        → HasFront layout (D.meaning.state_of disk.old).reads }
+    requires size { (D.meaning.state_of disk.old).size ≡ record_length layout * records }
+    requires fits { (D.meaning.state_of disk.old).size < 2 ^ 64 }
+    ensures seen { IfOk result (IsSeen layout (D.meaning.state_of disk.new)) }
+    ensures nature { PreservesDisk (D.meaning.state_of disk.old) (D.meaning.state_of disk.new) }
+    ensures arming { StaysArmed (D.meaning.state_of disk.old) (D.meaning.state_of disk.new) }
+    ensures bytes { PreservesBytes (D.meaning.state_of disk.old) (D.meaning.state_of disk.new) }
+    ensures no_failure { OnOk result
+        ((D.meaning.state_of disk.new).failures ≡ (D.meaning.state_of disk.old).failures) }
+    ensures failed { IfErr result
+        (HasFailed (D.meaning.state_of disk.old) (D.meaning.state_of disk.new)) }
+{
+    let last = match find_last(disk, layout, Mark::Used, records)? {
         None => return Ok(Seen::Left),
         Some(last) => last,
     };
-    let kept = count_kept(disk, format, last + 1)?;
-    let gated = find_last(disk, format, Mark::Gated, last + 1)?;
-    if last < kept + format.most_of_group() && may_stand(gated, kept, records) {
+    let kept = count_kept(disk, layout, last + 1)?;
+    let gated = find_last(disk, layout, Mark::Gated, last + 1)?;
+    if last < kept + layout.most_of_group() && may_stand(gated, kept, records) {
         Ok(Seen::Left)
     } else {
         Ok(Seen::Foreign(last))
@@ -155,10 +225,10 @@ fn may_stand(gated: Option<u64>, kept: u64, records: u64) -> bool
 }
 
 /// How many records are in groups, where none is open from a place on.
-fn count_kept<D: Disk>(disk: &mut D, format: RecordFormat, below: u64) -> Result<u64, StoreFault>
-    requires inside { record_length format * below ≤ (D.meaning.state_of disk.old).size }
+fn count_kept<D: Disk>(disk: &mut D, layout: Layout, below: u64) -> Result<u64, StoreFault>
+    requires inside { record_length layout * below ≤ (D.meaning.state_of disk.old).size }
     requires fits { (D.meaning.state_of disk.old).size < 2 ^ 64 }
-    ensures counted { IfOk result (AreKeptCounted format below (D.meaning.state_of disk.new)) }
+    ensures counted { IfOk result (AreKeptCounted layout below (D.meaning.state_of disk.new)) }
     ensures fits { IfOk result (λ kept. kept < 2 ^ 61) }
     ensures nature { PreservesDisk (D.meaning.state_of disk.old) (D.meaning.state_of disk.new) }
     ensures arming { StaysArmed (D.meaning.state_of disk.old) (D.meaning.state_of disk.new) }
@@ -168,24 +238,24 @@ fn count_kept<D: Disk>(disk: &mut D, format: RecordFormat, below: u64) -> Result
     ensures failed { IfErr result
         (HasFailed (D.meaning.state_of disk.old) (D.meaning.state_of disk.new)) }
 {
-    match find_last(disk, format, Mark::Open, below)? {
+    match find_last(disk, layout, Mark::Open, below)? {
         None => Ok(0),
         Some(first) => {
-            let followers = read_followers(disk, format, first)?;
+            let followers = read_followers(disk, layout, first)?;
             Ok(first + 1 + u64::from(followers))
         }
     }
 }
 
-/// How many records that at a place says to follow.
+/// How many records that at a place says to follow. A header says that none does.
 fn read_followers<D: Disk>(
     disk: &mut D,
-    format: RecordFormat,
+    layout: Layout,
     place: u64,
 ) -> Result<u16, StoreFault>
-    requires inside { record_length format * (place + 1) ≤ (D.meaning.state_of disk.old).size }
+    requires inside { record_length layout * (place + 1) ≤ (D.meaning.state_of disk.old).size }
     requires fits { (D.meaning.state_of disk.old).size < 2 ^ 64 }
-    ensures read { IfOk result (AreFollowersRead format place (D.meaning.state_of disk.new)) }
+    ensures read { IfOk result (AreFollowersRead layout place (D.meaning.state_of disk.new)) }
     ensures nature { PreservesDisk (D.meaning.state_of disk.old) (D.meaning.state_of disk.new) }
     ensures arming { StaysArmed (D.meaning.state_of disk.old) (D.meaning.state_of disk.new) }
     ensures bytes { PreservesBytes (D.meaning.state_of disk.old) (D.meaning.state_of disk.new) }
@@ -194,9 +264,12 @@ fn read_followers<D: Disk>(
     ensures failed { IfErr result
         (HasFailed (D.meaning.state_of disk.old) (D.meaning.state_of disk.new)) }
 {
-    match format {
-        RecordFormat::Log => Ok(0),
-        RecordFormat::Journal => {
+    match layout {
+        Layout::Log => Ok(0),
+        Layout::Journal(version) => {
+            if is_header(version, place) {
+                return Ok(0);
+            }
             let mut bytes = [0; 2];
             disk.read_at(32 * place + 2, &mut bytes)?;
             Ok(u16::from_be_bytes(bytes))
@@ -204,17 +277,27 @@ fn read_followers<D: Disk>(
     }
 }
 
+/// Whether the record at a place of a journal of a version is its header.
+fn is_header(version: Version, place: u64) -> bool
+    ensures { IsTrue result ↔ (version ≡ VersionTwo) × (place ≡ 0) }
+{
+    match version {
+        Version::One => false,
+        Version::Two => place == 0,
+    }
+}
+
 /// The last record before a place that has a mark. The disk is read by pieces, from that place on to
 /// its front.
 fn find_last<D: Disk>(
     disk: &mut D,
-    format: RecordFormat,
+    layout: Layout,
     mark: Mark,
     below: u64,
 ) -> Result<Option<u64>, StoreFault>
-    requires inside { record_length format * below ≤ (D.meaning.state_of disk.old).size }
+    requires inside { record_length layout * below ≤ (D.meaning.state_of disk.old).size }
     requires fits { (D.meaning.state_of disk.old).size < 2 ^ 64 }
-    ensures found { IfOk result (IsLastOn format mark 0 below (D.meaning.state_of disk.new)) }
+    ensures found { IfOk result (IsLastOn layout mark 0 below (D.meaning.state_of disk.new)) }
     ensures before { IfOk result (IsBefore below) }
     ensures nature { PreservesDisk (D.meaning.state_of disk.old) (D.meaning.state_of disk.new) }
     ensures arming { StaysArmed (D.meaning.state_of disk.old) (D.meaning.state_of disk.new) }
@@ -224,14 +307,14 @@ fn find_last<D: Disk>(
     ensures failed { IfErr result
         (HasFailed (D.meaning.state_of disk.old) (D.meaning.state_of disk.new)) }
 {
-    let length = format.record_length();
+    let length = layout.record_length();
     let mut piece = [0; PIECE_LENGTH];
     let mut end = below;
     while end > 0 {
-        let count = end.min(format.piece_records());
+        let count = end.min(layout.piece_records());
         let start = end - count;
         let bytes = &mut piece[..length * count as usize];
-        let found = find_in_piece(disk, format, mark, start, count, bytes)?;
+        let found = find_in_piece(disk, layout, mark, start, count, bytes)?;
         if found.is_some() {
             return Ok(found);
         }
@@ -243,18 +326,18 @@ fn find_last<D: Disk>(
 /// Reads so many records from a place on into a piece, and finds the last of them that has a mark.
 fn find_in_piece<D: Disk>(
     disk: &mut D,
-    format: RecordFormat,
+    layout: Layout,
     mark: Mark,
     start: u64,
     count: u64,
     piece: &mut [u8],
 ) -> Result<Option<u64>, StoreFault>
-    requires whole { length piece.old ≡ record_length format * count }
+    requires whole { length piece.old ≡ record_length layout * count }
     requires most { length piece.old ≤ 65536 }
-    requires inside { record_length format * (start + count) ≤ (D.meaning.state_of disk.old).size }
+    requires inside { record_length layout * (start + count) ≤ (D.meaning.state_of disk.old).size }
     requires fits { (D.meaning.state_of disk.old).size < 2 ^ 64 }
     ensures found { IfOk result
-        (IsLastOn format mark start (start + count) (D.meaning.state_of disk.new)) }
+        (IsLastOn layout mark start (start + count) (D.meaning.state_of disk.new)) }
     ensures before { IfOk result (IsBefore (start + count)) }
     ensures length { length piece.new ≡ length piece.old }
     ensures nature { PreservesDisk (D.meaning.state_of disk.old) (D.meaning.state_of disk.new) }
@@ -265,21 +348,21 @@ fn find_in_piece<D: Disk>(
     ensures failed { IfErr result
         (HasFailed (D.meaning.state_of disk.old) (D.meaning.state_of disk.new)) }
 {
-    disk.read_at(format.record_length() as u64 * start, piece)?;
-    match last_in(format, mark, count as usize, piece) {
+    disk.read_at(layout.record_length() as u64 * start, piece)?;
+    match last_in(layout, mark, count as usize, piece) {
         None => Ok(None),
         Some(place) => Ok(Some(start + place as u64)),
     }
 }
 
 /// The last of so many records, which are a piece, that has a mark.
-fn last_in(format: RecordFormat, mark: Mark, count: usize, piece: &[u8]) -> Option<usize>
-    requires whole { length piece.now ≡ record_length format * count }
+fn last_in(layout: Layout, mark: Mark, count: usize, piece: &[u8]) -> Option<usize>
+    requires whole { length piece.now ≡ record_length layout * count }
     requires most { length piece.now ≤ 65536 }
-    ensures found { IsLastIn format mark 0 count piece.now result }
+    ensures found { IsLastIn layout mark 0 count piece.now result }
     ensures before { IsBefore count result }
 {
-    let length = format.record_length();
+    let length = layout.record_length();
     let mut end = count;
     while end > 0 {
         end -= 1;

@@ -1,21 +1,44 @@
 //! The commands `new-log` and `new-journal`.
 
-ghost use Rattle.std.specs.Prelude.{◌≡◌, ◌*◌, ℕ, IfErr, IfOk, IfSome, IfNone, OnErr, OnOk, replicate};
-ghost use Rattle.duk_service.specs.LeftRecords.{IsWhole, record_length};
-ghost use Rattle.duk_service.specs.LogFiles.{BeginsUnfinished, IsDisk, IsNoDisk};
-ghost use Rattle.duk_service.specs.NewFile.{HasMadeFile, IsBlankMade, IsLeftInPart, IsNewFileRefused, IsRecordCount, IsUnmade, new_file_line};
-ghost use Rattle.duk_service.specs.declared.left_records.RecordFormat.{RecordFormat};
-ghost use Rattle.duk_service.specs.inner.NewFile.{BeginsAs, IsKeptBlank, IsNotKept};
+ghost use Rattle.std.specs.Prelude.{◌≡◌, ◌≤◌, ◌*◌, ℕ, IfErr, IfOk, IfSome, IfNone, OnErr, OnOk, replicate};
+ghost use Rattle.duk_service.specs.LogFiles.{IsDisk, IsNoDisk};
+ghost use Rattle.duk_service.specs.NewFile.{HasMadeFile, IsBlankMade, IsLeftInPart, IsNewFileRefused, IsRecordCount, IsUnmade, IsWrittenAnew, file_size, format_of, new_file_line};
+ghost use Rattle.duk_service.specs.inner.NewFile.{BeginsAs, IsKeptBlank, IsNotKept, IsSizeOf};
+ghost use Rattle.duk_store.specs.Disk.{HasFailed};
 
 use crate::left_records::RecordFormat;
 use crate::log_files::LogFiles;
 use duk_commands::read_decimal;
-use duk_journal_copy::{PIECE_LENGTH, write_blank};
+use duk_journal_copy::{PIECE_LENGTH, write_blank, write_journal};
 use duk_store::{Disk, StoreFault};
 use std::alloc::{AllocError, Global};
 
+/// What a new file is to be.
+#[derive(Clone, Copy, Debug, PartialEq, Eq)]
+pub enum NewFile {
+    /// A log, which has no identity.
+    Log,
+    /// A journal.
+    Journal {
+        /// Its identity, which is drawn at random.
+        identity: u64,
+    },
+}
+
 /// The most records of which a log or a journal may be made.
 const MOST_RECORDS: u32 = 1_000_000_000;
+
+impl NewFile {
+    /// What the records of the file are.
+    pub fn format(self) -> RecordFormat
+        ensures { result ≡ format_of self }
+    {
+        match self {
+            NewFile::Log => RecordFormat::Log,
+            NewFile::Journal { .. } => RecordFormat::Journal,
+        }
+    }
+}
 
 /// Why no log or journal is made.
 #[derive(Clone, Copy, Debug, PartialEq, Eq)]
@@ -54,30 +77,30 @@ impl NewFileFault {
     }
 }
 
-/// Makes the file of a log or a journal with room for so many numbers or entries as a text says.
-/// Memory is asked for before the file is made.
+/// Makes the file of a log or a journal with room for so many numbers or entries as a text says. In
+/// front of a journal's stands a header. Memory is asked for before the file is made.
 ///
 /// The faults, in this order: `records refused`; `out of memory`; `log: cannot make`, or
 /// `journal: cannot make`. A file that was made and cannot be kept is removed again, if it can be.
 pub fn new_file<S: LogFiles>(
     alloc: Global,
     files: &S,
-    format: RecordFormat,
+    new: NewFile,
     file: &str,
     records: &str,
 ) -> Result<(), NewFileFault>
     requires { S.may_make files.now file.now }
     ensures made { OnOk result
-        (HasMadeFile format S.Disk.meaning (S.making files.now file.now) records.now) }
+        (HasMadeFile new S.Disk.meaning (S.making files.now file.now) records.now) }
     ensures refused { IfErr result
-        (IsNewFileRefused format S.Disk.meaning (S.making files.now file.now) records.now) }
+        (IsNewFileRefused new S.Disk.meaning (S.making files.now file.now) records.now) }
 {
     let Some(records) = read_records(records) else {
         return Err(NewFileFault::RecordsRefused);
     };
-    let size = size_of(format, records);
+    let size = size_of(new, records);
     let zeros = vec![in alloc; 0; PIECE_LENGTH]?;
-    match make_blank(files, format, file, size, zeros.as_slice()) {
+    match make_blank(files, new, file, size, zeros.as_slice()) {
         Ok(()) => Ok(()),
         Err(_) => Err(NewFileFault::Unmade),
     }
@@ -96,31 +119,34 @@ pub(crate) fn read_records(text: &str) -> Option<u32>
 }
 
 /// The bytes of a log or a journal with room for so many.
-pub(crate) fn size_of(format: RecordFormat, records: u32) -> u64
-    ensures { result ≡ record_length format * records }
+fn size_of(new: NewFile, records: u32) -> u64
+    ensures { result ≡ file_size new records }
 {
-    format.record_length() as u64 * u64::from(records)
+    match new {
+        NewFile::Log => 16 * u64::from(records),
+        NewFile::Journal { .. } => 32 * (1 + u64::from(records)),
+    }
 }
 
-/// Makes a file of so many zeros, all written and synced, and syncs its folder. Where it cannot be
-/// kept it is removed again, if it can be.
+/// Makes a file of so many bytes that keeps nothing, all written and synced, and syncs its folder.
+/// Where it cannot be kept it is removed again, if it can be.
 fn make_blank<S: LogFiles>(
     files: &S,
-    format: RecordFormat,
+    new: NewFile,
     file: &str,
     size: u64,
     zeros: &[u8],
 ) -> Result<(), StoreFault>
     requires own { S.may_make files.now file.now }
     requires zeros { zeros.now ≡ replicate 65536 0 }
-    requires size { IsWhole format size }
+    requires size { IsSizeOf new size }
     ensures made { OnOk result
-        (IsBlankMade format S.Disk.meaning (S.making files.now file.now) size) }
+        (IsBlankMade new S.Disk.meaning (S.making files.now file.now) size) }
     ensures refused { OnErr result
-        (IsUnmade S.Disk.meaning (S.making files.now file.now) size (IsLeftInPart format)) }
+        (IsUnmade S.Disk.meaning (S.making files.now file.now) size (IsLeftInPart new)) }
 {
-    let mut disk = begin_file(files, format, file, size)?;
-    match keep_blank(files, format, file, size, zeros, &mut disk) {
+    let mut disk = begin_file(files, new, file, size)?;
+    match keep_blank(files, new, file, size, zeros, &mut disk) {
         Ok(()) => Ok(()),
         Err(why) => {
             files.remove_made(file, disk);
@@ -132,25 +158,26 @@ fn make_blank<S: LogFiles>(
 /// Makes a file of so many bytes: for a journal one that begins as none, for a log one of zeros.
 fn begin_file<S: LogFiles>(
     files: &S,
-    format: RecordFormat,
+    new: NewFile,
     file: &str,
     size: u64,
 ) -> Result<S::Disk, StoreFault>
     requires { S.may_make files.now file.now }
     ensures made { IfOk result (IsDisk ((S.making files.now file.now).disk size)) }
-    ensures begins { IfOk result (λ disk. BeginsAs format (S.Disk.meaning.state_of disk)) }
+    ensures begins { IfOk result (λ disk. BeginsAs new (S.Disk.meaning.state_of disk)) }
     ensures refused { OnErr result (IsNoDisk ((S.making files.now file.now).disk size)) }
 {
-    match format {
-        RecordFormat::Log => files.make_zeros(file, size),
-        RecordFormat::Journal => files.make_disk(file, size),
+    match new {
+        NewFile::Log => files.make_zeros(file, size),
+        NewFile::Journal { .. } => files.make_disk(file, size),
     }
 }
 
-/// Writes zeros over all of a disk that was made under a path, syncs them, and then its folder.
+/// Writes what keeps nothing over all of a disk that was made under a path, syncs it, and then its
+/// folder.
 fn keep_blank<S: LogFiles>(
     files: &S,
-    format: RecordFormat,
+    new: NewFile,
     file: &str,
     size: u64,
     zeros: &[u8],
@@ -158,19 +185,36 @@ fn keep_blank<S: LogFiles>(
 ) -> Result<(), StoreFault>
     requires own { S.may_make files.now file.now }
     requires zeros { zeros.now ≡ replicate 65536 0 }
-    requires size { IsWhole format size }
-    requires begins { BeginsAs format (S.Disk.meaning.state_of disk.old) }
-    ensures kept { OnOk result (IsKeptBlank format (S.making files.now file.now).folder size
+    requires size { IsSizeOf new size }
+    requires begins { BeginsAs new (S.Disk.meaning.state_of disk.old) }
+    ensures kept { OnOk result (IsKeptBlank new (S.making files.now file.now).folder size
         (S.Disk.meaning.state_of disk.old) (S.Disk.meaning.state_of disk.new)) }
     ensures refused { OnErr result (IsNotKept (S.making files.now file.now).folder size
         (S.Disk.meaning.state_of disk.old) (S.Disk.meaning.state_of disk.new)) }
-    ensures left { IsLeftInPart format
+    ensures left { IsLeftInPart new
         (S.Disk.meaning.state_of disk.old) (S.Disk.meaning.state_of disk.new) }
 {
     duk_journal_copy::laws::unfinished();
     if disk.size() != size {
         return Err(StoreFault::Device);
     }
-    write_blank(disk, zeros)?;
+    write_anew(new, disk, zeros)?;
     files.sync_folder(file)
+}
+
+/// Writes what keeps nothing over all of a disk, and syncs it.
+fn write_anew<D: Disk>(new: NewFile, disk: &mut D, zeros: &[u8]) -> Result<(), StoreFault>
+    requires zeros { zeros.now ≡ replicate 65536 0 }
+    requires size { IsSizeOf new (D.meaning.state_of disk.old).size }
+    requires begins { BeginsAs new (D.meaning.state_of disk.old) }
+    ensures written { OnOk result
+        (IsWrittenAnew new (D.meaning.state_of disk.old) (D.meaning.state_of disk.new)) }
+    ensures failed { IfErr result
+        (HasFailed (D.meaning.state_of disk.old) (D.meaning.state_of disk.new)) }
+    ensures left { IsLeftInPart new (D.meaning.state_of disk.old) (D.meaning.state_of disk.new) }
+{
+    match new {
+        NewFile::Log => write_blank(disk, zeros),
+        NewFile::Journal { identity } => write_journal(disk, identity, zeros),
+    }
 }

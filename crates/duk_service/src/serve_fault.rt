@@ -35,7 +35,8 @@ impl ServeFault {
     }
 }
 
-/// The line where a file is not opened: one that no log leaves, or no journal, is as a damaged one.
+/// The line where a file is not opened: one that no log leaves, or no journal, is as a damaged one, and
+/// one that a journal of version 1 leaves is to be copied.
 fn open_line(format: RecordFormat, why: OpenFault) -> &'static str
     ensures { result.now ≡ open_line format why }
 {
@@ -43,6 +44,7 @@ fn open_line(format: RecordFormat, why: OpenFault) -> &'static str
         (RecordFormat::Log, OpenFault::Unopened) => "log: cannot open\n",
         (RecordFormat::Log, _) => "log: failed\n",
         (RecordFormat::Journal, OpenFault::Unopened) => "journal: cannot open\n",
+        (RecordFormat::Journal, OpenFault::OldVersion) => "journal: version 1, use copy-journal\n",
         (RecordFormat::Journal, _) => "journal: failed\n",
     }
 }

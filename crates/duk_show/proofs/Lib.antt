@@ -14,5 +14,6 @@ mod LinesAppended
 mod LogRecords
 mod OneLog
 mod StandingPayments
+mod StoredRecords
 mod TerminalTallies
 mod Texts

@@ -6,16 +6,21 @@ use Rattle.hex.specs.Hex.{encode_upper}
 use Rattle.duk_commands.specs.Lines.{text_line}
 use Rattle.duk_frame.specs.Code.{code_text}
 use Rattle.duk_journal.specs.Entry.{reversed_by}
-use Rattle.duk_journal.specs.Groups.{Entries, HasContents, KeepsEntries}
+use Rattle.byteorder.specs.Endian.{big_bytes}
+use Rattle.duk_journal.specs.Groups.{Entries}
 use Rattle.duk_journal.specs.RecordFormat.{IsJournalSize, IsOpen, gate_of, record_at, record_length}
 use Rattle.duk_journal.specs.Standing.{UseNewNumbers, is_by, is_payment, is_undone, standing_total, used_by}
 use Rattle.duk_journal.specs.declared.entry.Decided.{Decided}
 use Rattle.duk_journal.specs.declared.entry.Decided.TheVariants.{Payment, Reversal}
 use Rattle.duk_journal.specs.declared.entry.Entry.{Entry}
+use Rattle.duk_journal_copy.specs.Version.{KeepsIn}
+use Rattle.duk_journal_copy.specs.declared.version.Version.{Version}
 use Rattle.duk_store.specs.Log.{Numbers}
 use Rattle.duk_tree.specs.Serial.{Serial, iksn_bytes, serial_bytes}
 use Rattle.duk_show.specs.Frame.{code_words, state_words}
 use Rattle.duk_show.specs.Log.{last_after}
+use Rattle.duk_show.specs.Stored.{HasContents, IsStored, if_two, stored_record}
+use Rattle.duk_show.specs.declared.stored.Stored.{Stored}
 use Rattle.duk_show.specs.declared.fault.ShowFault.{ShowFault}
 use Rattle.duk_show.specs.declared.fault.ShowFault.TheVariants.{JournalRefused, OutOfMemory}
 
@@ -23,14 +28,20 @@ use Rattle.duk_show.specs.declared.fault.ShowFault.TheVariants.{JournalRefused, 
 abbrev pub numbers_of : Entries → Numbers
 numbers_of entries = map (λ entry. entry.number) entries
 
--- the bytes are those of a journal that keeps these entries, and their numbers are such that a host
--- may have used them
+-- the bytes are those of a journal of either version that keeps these entries, and their numbers are
+-- such that a host may have used them
 pub record IsJournal (bytes : List ℕ) (entries : Entries) : Type 0 where
+  pub version : Version
   pub size : IsJournalSize (length bytes)
-  pub keeps : KeepsEntries bytes entries
+  pub keeps : KeepsIn version bytes entries
   pub usable : UseNewNumbers entries
 
 -- ---- the lines
+
+-- the lines of a header: the version of the format, and the identity of the file
+abbrev pub header_lines : Stored → List ℕ
+header_lines stored = if_two stored.version (text_line (codes "version") (codes "2")
+    ++ text_line (codes "identity") (encode_upper (big_bytes 8 stored.identity)))
 
 -- where a record stands, and its key serial number: its place, and where its group begins
 abbrev pub record_words : ℕ → ℕ → Serial → List ℕ
@@ -113,69 +124,78 @@ count_lines records entries =
     ++ text_line (codes "room") (decimal (records - length entries))
 
 -- the lines of a journal that keeps these entries
-abbrev pub journal_lines : List ℕ → Entries → List ℕ
-journal_lines bytes entries =
-    entry_lines bytes 0 0 entries ++ count_lines (length bytes / record_length) entries
+abbrev pub stored_lines : Stored → Entries → List ℕ
+stored_lines stored entries =
+    header_lines stored ++ entry_lines stored.records.now 0 0 entries
+    ++ count_lines (length stored.records.now / record_length) entries
     ++ payer_lines entries [] entries
 
 -- the bytes are those of a journal, and these are its lines
 pub record IsJournalText (bytes text : List ℕ) : Type 0 where
   pub entries : Entries
   pub is_journal : IsJournal bytes entries
-  pub text_is : text ≡ journal_lines bytes entries
+  pub stored : Stored
+  pub stored_are : IsStored bytes stored
+  pub text_is : text ≡ stored_lines stored entries
 
 -- ---- where the reading stops
 
 -- these entries stand from a place on, where so many of a group that began before it are to come;
 -- behind them so many of the last group are
-abbrev pub StandFrom : Entries → ℕ → ℕ → ℕ → List ℕ → Type 0
-StandFrom [] left place more bytes = left ≡ more
-StandFrom (entry ∷ later) zero place more bytes =
-    (followers : ℕ) × IsOpen (record_at place bytes)
-    × HasContents followers entry (record_at place bytes)
-    × StandFrom later followers (place + 1) more bytes
-StandFrom (entry ∷ later) (suc left) place more bytes =
-    (¬ IsOpen (record_at place bytes)) × HasContents 0 entry (record_at place bytes)
-    × StandFrom later left (place + 1) more bytes
+abbrev pub StandFrom : Entries → ℕ → ℕ → ℕ → Stored → Type 0
+StandFrom [] left place more stored = left ≡ more
+StandFrom (entry ∷ later) zero place more stored =
+    (followers : ℕ) × IsOpen (stored_record place stored)
+    × HasContents stored place followers entry (stored_record place stored)
+    × StandFrom later followers (place + 1) more stored
+StandFrom (entry ∷ later) (suc left) place more stored =
+    (¬ IsOpen (stored_record place stored))
+    × HasContents stored place 0 entry (stored_record place stored)
+    × StandFrom later left (place + 1) more stored
 
 -- the records before a place are those of a journal: these entries, of whose last group so many are
 -- to come; or whole groups, and closed records behind them
-pub record BeginsJournal (place left : ℕ) (entries : Entries) (bytes : List ℕ) : Type 0 where
+pub record BeginsJournal (place left : ℕ) (entries : Entries) (stored : Stored) : Type 0 where
   pub within : length entries ≤ place
-  pub stand : StandFrom entries 0 0 left bytes
+  pub stand : StandFrom entries 0 0 left stored
   pub usable : UseNewNumbers entries
   pub closed : (other : ℕ) → length entries ≤ other → other < place
-      → ¬ IsOpen (record_at other bytes)
+      → ¬ IsOpen (stored_record other stored)
   pub whole : length entries < place → left ≡ 0
 
--- a record has an entry whose number none of these uses
-pub record HasNewEntry (followers : ℕ) (entries : Entries) (record_bytes : List ℕ) : Type 0 where
+-- the record at a place has an entry whose number none of these uses
+pub record HasNewEntry (stored : Stored) (place followers : ℕ) (entries : Entries)
+    (record_bytes : List ℕ) : Type 0 where
   pub entry : Entry
-  pub contents : HasContents followers entry record_bytes
+  pub contents : HasContents stored place followers entry record_bytes
   pub is_new : ¬ Contains (used_by entries) entry.number
 
 -- the record at a place goes on with a journal: inside a group it is closed, and has a new entry,
 -- after which it says none follows; else it is closed, or the first of a group, behind the entries
-abbrev pub GoesOn : ℕ → ℕ → Entries → List ℕ → Type 0
-GoesOn place zero entries record_bytes =
+abbrev pub GoesOn : Stored → ℕ → ℕ → Entries → List ℕ → Type 0
+GoesOn stored place zero entries record_bytes =
     (¬ IsOpen record_bytes)
-    ⊎ ((length entries ≡ place) × (followers : ℕ) × HasNewEntry followers entries record_bytes)
-GoesOn place (suc left) entries record_bytes =
-    (¬ IsOpen record_bytes) × HasNewEntry 0 entries record_bytes
+    ⊎ ((length entries ≡ place)
+    × (followers : ℕ) × HasNewEntry stored place followers entries record_bytes)
+GoesOn stored place (suc left) entries record_bytes =
+    (¬ IsOpen record_bytes) × HasNewEntry stored place 0 entries record_bytes
 
--- the record at a place is not whole: the bytes end in it, or there is none at all
-pub record IsCutRecord (place : ℕ) (bytes : List ℕ) : Type 0 where
-  pub begins : record_length * place ≤ length bytes
-  pub ends : length bytes < record_length * place + record_length
-  pub some : length bytes ≡ record_length * place → place ≡ 0
+-- the record at a place is not whole: the bytes end in it, or there are none at all
+pub record IsCutRecord (place : ℕ) (bytes : List ℕ) (stored : Stored) : Type 0 where
+  pub begins : record_length * place ≤ length stored.records.now
+  pub ends : length stored.records.now < record_length * place + record_length
+  pub some : length stored.records.now ≡ record_length * place → bytes ≡ []
 
--- the first record that is in no journal: the bytes end in it, or there is none at all, or it does not
--- go on with what is before it, as one that is missing inside a group
+-- the first record behind the header that is in no journal: the bytes end in it, or there are none at
+-- all, or it does not go on with what is before it, as one that is missing inside a group
 pub record IsJournalDamagedAt (bytes : List ℕ) (place : ℕ) : Type 0 where
+  pub stored : Stored
+  pub stored_are : IsStored bytes stored
   pub left : ℕ
   pub entries : Entries
-  pub begins : BeginsJournal place left entries bytes
-  pub wrong : IsCutRecord place bytes ⊎ ¬ GoesOn place left entries (record_at place bytes)
+  pub begins : BeginsJournal place left entries stored
+  pub wrong : IsCutRecord place bytes stored
+      ⊎ ¬ GoesOn stored place left entries (stored_record place stored)
 
 -- why bytes are not shown as a journal: the first record that is in none; memory may be refused
 abbrev pub IsJournalRefused : List ℕ → ShowFault → Type 0

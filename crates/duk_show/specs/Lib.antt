@@ -8,6 +8,7 @@ pub mod Block
 pub mod ImageFault
 pub mod Image
 pub mod Log
+pub mod Stored
 pub mod Journal
 pub mod ShownText
 pub mod inner

@@ -1,6 +1,6 @@
 //! The command `show journal`.
 
-ghost use Rattle.std.specs.Prelude.{◌≡◌, ◌≤◌, ◌*◌, ◌/◌, ◌++◌, ◌+◌, [], All, IfErr, IfOk, MatchOption, OnOk, codes, count_by, decimal, flat_map, length};
+ghost use Rattle.std.specs.Prelude.{◌≡◌, ◌<◌, ◌≤◌, ◌^◌, ◌*◌, ◌/◌, ◌++◌, ◌+◌, [], All, IfErr, IfOk, MatchOption, OnOk, codes, count_by, decimal, flat_map, length};
 ghost use Rattle.hex.specs.Hex.{encode_upper};
 ghost use Rattle.arrayvec.specs.ArrayVec.{array_vec_len};
 ghost use Rattle.duk_frame.specs.Code.{code_text};
@@ -10,9 +10,10 @@ ghost use Rattle.duk_journal.specs.Standing.{is_payment};
 ghost use Rattle.duk_tree.specs.Path.{IsUsable};
 ghost use Rattle.duk_tree.specs.Serial.{serial_bytes};
 ghost use Rattle.duk_show.specs.Frame.{code_words, state_words};
-ghost use Rattle.duk_show.specs.Journal.{IsJournal, IsJournalRefused, IsJournalText, count_lines, entry_line, entry_lines, payer_lines, record_words, reversals_line, undone_words};
+ghost use Rattle.duk_show.specs.Journal.{IsJournal, IsJournalRefused, IsJournalText, count_lines, entry_line, entry_lines, header_lines, payer_lines, record_words, reversals_line, stored_lines, undone_words};
+ghost use Rattle.duk_show.specs.Stored.{IsStored};
 ghost use Rattle.duk_show.specs.declared.fault.ShowFault.TheVariants.{OutOfMemory};
-ghost use Rattle.duk_show.specs.inner.Journal.{AreClosedBetween, AreGroups, AreUsedBy, IsLeftAfter, IsNewEntry, IsNextIn, IsNoneNext, IsNotNew, IsOpenAt, IsRecordNotTaken, IsRecordTaken};
+ghost use Rattle.duk_show.specs.inner.Journal.{AreClosedBetween, AreGroups, AreNoGroups, AreUsedBy, IsLeftAfter, IsNewEntry, IsNextIn, IsNoneNext, IsNotNew, IsOpenAt, IsRecordNotTaken, IsRecordTaken};
 ghost use Rattle.duk_show.specs.inner.JournalTallies.{payer_line};
 
 use crate::decimal::{push_amount, push_decimal, push_number_line};
@@ -20,67 +21,75 @@ use crate::fault::ShowFault;
 use crate::frame::{words_of_code, words_of_state};
 use crate::journal_tallies::{Payer, payers_of};
 use crate::standing::{payments_in, reversed_by_all, take_reversed};
+use crate::stored::Stored;
 use duk_commands::{LINES_ROOM, Lines, push_end, push_text};
 use duk_frame::Code;
 use duk_host::UsedNumbers;
 use duk_io::append_hex;
-use duk_journal::{Contents, Decided, Entry, OPEN, RECORD_LENGTH, contents_of_record};
+use duk_journal::{Decided, Entry, OPEN, RECORD_LENGTH};
+use duk_journal_copy::Version;
 use duk_reversal::ReversalState;
+use duk_store::Format;
 use duk_tree::Ksn;
 use std::alloc::Global;
 
-/// The lines of the bytes of a journal: each payment and each reversal that it keeps, in the order in
+/// The lines of the bytes of a journal of either version: of version 2 the version and the identity of
+/// the file; each payment and each reversal that it keeps, in the order in
 /// which they were appended, with the places of its record and of the first one of its group; how many
 /// payments there are, how many reversals, if any, and for how many more there is room; and for each
 /// initial key serial number, in the order of their first entries, how many payments it has, the first
 /// number and the last, the sum of the amounts that stand (approved, and no reversal of it kept), and
 /// how many payments are undone, if any. The time grows with the entries alone.
 ///
-/// Refused with `JournalRefused` and the place of the first record that is in no journal, counted in
-/// records. Memory for entries and lines may be refused.
+/// Places are counted in records, from 0, behind the header. Refused with `JournalRefused` and the place
+/// of the first record that is in no journal. Memory for entries and lines may be refused.
 pub fn journal_lines(alloc: Global, bytes: &[u8]) -> Result<Vec<u8>, ShowFault>
     ensures lines { IfOk result (λ text. IsJournalText bytes.now text.items) }
     ensures refused { IfErr result (IsJournalRefused bytes.now) }
 {
-    let entries = read_journal(alloc, bytes)?;
-    lines_of_journal(alloc, bytes, entries.as_slice())
+    let stored = Stored::of(bytes);
+    let entries = read_journal(alloc, bytes, stored)?;
+    lines_of_journal(alloc, stored, entries.as_slice())
 }
 
 /// The entries that a journal keeps.
-fn read_journal(alloc: Global, bytes: &[u8]) -> Result<Vec<Entry>, ShowFault>
+fn read_journal(alloc: Global, bytes: &[u8], stored: Stored<'_>) -> Result<Vec<Entry>, ShowFault>
+    requires { IsStored bytes.now stored }
     ensures journal { IfOk result (λ entries. IsJournal bytes.now entries.items) }
-    ensures fits { IfOk result (λ entries. 32 * length entries.items ≤ length bytes.now) }
+    ensures fits { IfOk result (λ entries.
+        32 * length entries.items ≤ length stored.records.now) }
     ensures refused { IfErr result (IsJournalRefused bytes.now) }
 {
-    duk_journal::laws::one_contents();
-    let entries = read_groups(alloc, bytes)?;
-    let records = bytes.len() / RECORD_LENGTH;
-    if let Some(place) = first_open(bytes, entries.len()) {
+    duk_journal_copy::laws::headed();
+    stored.version.laws();
+    let entries = read_groups(alloc, stored)?;
+    let records = stored.records.len() / RECORD_LENGTH;
+    if let Some(place) = first_open(stored.records, entries.len()) {
         return Err(ShowFault::JournalRefused { place });
     }
-    if records == 0 || bytes.len() % RECORD_LENGTH != 0 {
+    if bytes.is_empty() || stored.records.len() % RECORD_LENGTH != 0 {
         return Err(ShowFault::JournalRefused { place: records });
     }
     Ok(entries)
 }
 
 /// The entries of the groups, up to the first record in a group's place that is closed.
-fn read_groups(alloc: Global, bytes: &[u8]) -> Result<Vec<Entry>, ShowFault>
-    ensures groups { IfOk result (λ entries. AreGroups bytes.now entries.items) }
-    ensures refused { IfErr result (IsJournalRefused bytes.now) }
+fn read_groups(alloc: Global, stored: Stored<'_>) -> Result<Vec<Entry>, ShowFault>
+    ensures groups { IfOk result (λ entries. AreGroups stored entries.items) }
+    ensures refused { IfErr result (AreNoGroups stored) }
 {
-    duk_journal::laws::one_contents();
+    stored.version.laws();
     let mut entries = Vec::new(alloc);
     let mut used = UsedNumbers::new(alloc);
     let mut left = 0;
-    let records = bytes.len() / RECORD_LENGTH;
+    let records = stored.records.len() / RECORD_LENGTH;
     for place in 0..records {
         let start = RECORD_LENGTH * place;
-        let record = &bytes[start..start + RECORD_LENGTH];
+        let record = &stored.records[start..start + RECORD_LENGTH];
         if left == 0 && record[0] != OPEN {
             return Ok(entries);
         }
-        left = take_record(&mut entries, &mut used, left, record)?;
+        left = take_record(&mut entries, &mut used, left, stored, record)?;
     }
     if left != 0 {
         return Err(ShowFault::JournalRefused { place: records });
@@ -94,23 +103,25 @@ fn take_record(
     entries: &mut Vec<Entry>,
     used: &mut UsedNumbers,
     left: u16,
+    stored: Stored<'_>,
     bytes: &[u8],
 ) -> Result<u16, ShowFault>
     requires whole { length bytes.now ≡ 32 }
+    requires place { length entries.old.items < 2 ^ 63 }
     requires first { left ≡ 0 → IsOpen bytes.now }
     requires listed { AreUsedBy entries.old.items used.old }
     ensures taken { IfOk result
-        (IsRecordTaken left bytes.now entries.old.items entries.new.items) }
+        (IsRecordTaken stored left bytes.now entries.old.items entries.new.items) }
     ensures listed { IfOk result (λ _. AreUsedBy entries.new.items used.new) }
-    ensures refused { IfErr result (IsRecordNotTaken left bytes.now entries.old.items) }
+    ensures refused { IfErr result (IsRecordNotTaken stored left bytes.now entries.old.items) }
 {
-    duk_journal::laws::one_contents();
-    let Some(contents) = next_contents(left, bytes) else {
-        let place = entries.len();
+    stored.version.laws();
+    let place = entries.len();
+    let Some((followers, entry)) = next_contents(stored, place, left, bytes) else {
         return Err(ShowFault::JournalRefused { place });
     };
-    take_entry(entries, used, contents.entry)?;
-    Ok(left_after(left, contents.followers))
+    take_entry(entries, used, entry)?;
+    Ok(left_after(left, followers))
 }
 
 /// Takes an entry behind these, if none of them uses its number.
@@ -143,19 +154,25 @@ fn take_entry(
 
 /// The contents of a record that stands where so many of a group are to come: none, where the record
 /// is open inside a group, or says there that others follow.
-fn next_contents(left: u16, bytes: &[u8]) -> Option<Contents>
+fn next_contents(
+    stored: Stored<'_>,
+    place: usize,
+    left: u16,
+    bytes: &[u8],
+) -> Option<(u16, Entry)>
     requires whole { length bytes.now ≡ 32 }
+    requires place { place < 2 ^ 63 }
     requires first { left ≡ 0 → IsOpen bytes.now }
-    ensures { MatchOption result (IsNoneNext left bytes.now) (λ contents.
-        IsNextIn left contents.followers contents.entry bytes.now) }
+    ensures { MatchOption result (IsNoneNext stored place left bytes.now) (λ found.
+        IsNextIn stored place left found.0 found.1 bytes.now) }
 {
-    let Some(contents) = contents_of_record(bytes) else {
+    let Some((followers, entry)) = stored.contents_at(place, bytes) else {
         return None;
     };
-    if left != 0 && (bytes[0] == OPEN || contents.followers != 0) {
+    if left != 0 && (bytes[0] == OPEN || followers != 0) {
         return None;
     }
-    Some(contents)
+    Some((followers, entry))
 }
 
 /// How many of a group are to come after a record that says so many follow.
@@ -179,20 +196,35 @@ fn first_open(bytes: &[u8], from: usize) -> Option<usize>
 }
 
 /// The lines of a journal that keeps these entries.
-fn lines_of_journal(alloc: Global, bytes: &[u8], entries: &[Entry]) -> Result<Vec<u8>, ShowFault>
-    requires fits { 32 * length entries.now ≤ length bytes.now }
+fn lines_of_journal(
+    alloc: Global,
+    stored: Stored<'_>,
+    entries: &[Entry],
+) -> Result<Vec<u8>, ShowFault>
+    requires fits { 32 * length entries.now ≤ length stored.records.now }
     requires stand { All (λ entry. MayStandUnder entry.number entry.decided) entries.now }
-    ensures lines { IfOk result (λ text. text.items
-        ≡ entry_lines bytes.now 0 0 entries.now
-        ++ count_lines (length bytes.now / 32) entries.now
-        ++ payer_lines entries.now [] entries.now) }
+    ensures lines { IfOk result (λ text. text.items ≡ stored_lines stored entries.now) }
     ensures refused { IfErr result (λ why. why ≡ OutOfMemory) }
 {
     let mut text = Vec::new(alloc);
-    push_entries(&mut text, bytes, entries)?;
-    push_counts(&mut text, bytes.len() / RECORD_LENGTH, entries)?;
+    push(&mut text, lines_of_header(stored).as_slice())?;
+    push_entries(&mut text, stored.records, entries)?;
+    push_counts(&mut text, stored.records.len() / RECORD_LENGTH, entries)?;
     push_terminals(alloc, &mut text, entries)?;
     Ok(text)
+}
+
+/// The lines of a header, where there is one.
+fn lines_of_header(stored: Stored<'_>) -> Lines
+    ensures { result.items ≡ header_lines stored }
+{
+    let mut lines = Lines::new();
+    if stored.version == Version::Two {
+        push_text(&mut lines, b"version 2\nidentity ");
+        append_hex(&mut lines, &stored.identity.to_be_bytes());
+        push_end(&mut lines);
+    }
+    lines
 }
 
 /// Appends a text.

@@ -20,6 +20,7 @@ mod log;
 mod one_log;
 mod shown_text;
 mod standing;
+mod stored;
 mod tallies;
 
 pub use block::block_lines;

@@ -10,6 +10,7 @@ mod SlotsFound
 mod StepsInTurn
 mod WhatIsKept
 mod Places
+mod Identity
 mod Kept
 mod RecordsRead
 mod ReadInTurn

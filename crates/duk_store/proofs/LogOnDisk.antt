@@ -25,13 +25,13 @@ module _ {D : Type 0} (meaning : DiskMeaning D) (old new : DiskLogOf D) where
   }
 
   pub number_read : (place : ℕ) (bytes : List ℕ) (number : Serial) → number ≡ number_in bytes
-      → IsItemRead (records_meaning meaning (λ (format : LogFormat). log_format)) (λ item. (followers : ℕ) × SaysNumber (0 + place) followers item (after_gate bytes)) old new place → IsReadAt (disk_log_meaning meaning) old new place number
+      → IsItemRead (records_meaning meaning (λ (format : LogFormat). log_format)) (λ item. (followers : ℕ) × SaysNumber 0 (0 + place) followers item (after_gate bytes)) old new place → IsReadAt (disk_log_meaning meaning) old new place number
   number_read place bytes number is read = record {
     was_running = read.was_running;
     stays = read.stays;
     number_is = λ h numbers finds.
         let it = read.says_it h numbers finds in
-        let says : (followers : ℕ) × SaysNumber (0 + place) followers it.0 (after_gate bytes) = it.2 in
+        let says : (followers : ℕ) × SaysNumber 0 (0 + place) followers it.0 (after_gate bytes) = it.2 in
         it.1 ∙ ap Some (says.1.number_is ∙ sym is);
   }
 

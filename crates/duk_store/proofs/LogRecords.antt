@@ -11,9 +11,9 @@ use Rattle.duk_store.specs.LogFormat.{SaysNumber, log_format}
 use Rattle.duk_store.specs.Records.{AreClosedFrom, AreKeptFrom, KeepsItems, after_gate, record_at}
 
 -- what is written of a number says it
-pub says_number : (place followers : ℕ) (number : Serial) (contents : List ℕ) → length (serial_bytes number) ≡ 10 → serial_of_bytes (serial_bytes number) ≡ number → followers + 1 ≤ 1 → contents ≡ serial_bytes number ++ replicate 5 0
-    → SaysNumber place followers number contents
-says_number place followers number contents ten found alone is = record {
+pub says_number : (identity place followers : ℕ) (number : Serial) (contents : List ℕ) → length (serial_bytes number) ≡ 10 → serial_of_bytes (serial_bytes number) ≡ number → followers + 1 ≤ 1 → contents ≡ serial_bytes number ++ replicate 5 0
+    → SaysNumber identity place followers number contents
+says_number identity place followers number contents ten found alone is = record {
   alone = omega (arith, alone);
   whole = ap length is ∙ length-append (serial_bytes number) (replicate 5 0) ∙ omega (arith, ten);
   number_is = sym (ap serial_of_bytes (ap (take 10) is ∙ take_at (serial_bytes number) (replicate 5 0) 10 ten) ∙ found);

@@ -3,8 +3,8 @@ use Rattle.std.proofs.Common.{◌≡◌, ℕ, ◌+◌, ◌-◌, ◌*◌, ◌/◌
 use Rattle.std.proofs.Math.Nat.{div-mul-le_self, mul-add, mul_comm}
 use Rattle.std.proofs.lemmas.List.{drop-drop, drop-take, take-take}
 use Rattle.std.proofs.lemmas.Nat.{column_fits, div-mul-add, le-div, mul-le}
+use Rattle.duk_store.specs.Disk.{range_of}
 use Rattle.duk_store.specs.Records.{record_at}
-use Rattle.duk_store.specs.inner.Reading.{IsPieceAt}
 
 pub later : (long place more : ℕ) → long * (place + more) ≡ long * place + long * more
 later long place more = mul-add long place more
@@ -20,7 +20,7 @@ pub no_later : (long one other : ℕ) → one ≤ other → long * one ≤ long 
 no_later long one other less = mul-le long one long other (omega arith) less
 
 -- a record of a piece is one of the whole
-pub record_in_piece : (long place index : ℕ) (piece bytes : List ℕ) → IsPieceAt long piece place bytes → long * index + long ≤ length piece
+pub record_in_piece : (long place index : ℕ) (piece bytes : List ℕ) → piece ≡ range_of (long * place) (length piece) bytes → long * index + long ≤ length piece
     → record_at long (place + index) bytes ≡ record_at long index piece
 record_in_piece long place index piece bytes stands inside =
     let n = length piece in

@@ -1,22 +1,26 @@
 -- The meaning of records on a disk, from what that disk may leave.
-use Rattle.std.proofs.Common.{◌≡◌, ◌≢◌, ◌⊎◌, ◌↔◌, inl, inr, ℕ, ◌+◌, ◌*◌, ◌<◌, ◌≤◌, List, [], ◌++◌, Option, Some, None, length, drop, get_or, replicate, refl, sym, ◌∙◌, ap, subst, arith, length-append, true, false}
+use Rattle.std.proofs.Common.{◌≡◌, ◌≢◌, ◌⊎◌, ◌↔◌, inl, inr, ℕ, ◌+◌, ◌-◌, ◌*◌, ◌<◌, ◌≤◌, List, [], ◌++◌, Option, Some, None, length, drop, get_or, replicate, refl, sym, ◌∙◌, ap, subst, arith, length-append, true, false}
 use Rattle.std.proofs.lemmas.Bool.{cases_eq, cases_lt, false≢true}
 use Rattle.std.proofs.lemmas.Grind.{same_number_lists}
-use Rattle.std.proofs.lemmas.List.{append-nil, get_or-drop, get_or-replicate, get_or-take, get_or_past, length-replicate}
+use Rattle.std.proofs.lemmas.List.{append-nil, get_or-drop, get_or-replicate, get_or-take, get_or_past, length-replicate, take_at}
 use Rattle.std.specs.List.{slice_get}
 use Rattle.duk_store.specs.Disk.{DiskMeaning, DiskState, LeavesReads, LeavesWithin, PreservesBytes, PreservesDisk, ReadsMayStay}
 use Rattle.duk_store.specs.Restart.{IsRestartFault}
 use Rattle.duk_store.specs.StoreState.{IsNew, KeepsNothing, Stops}
 use Rattle.duk_store.specs.declared.fault.StoreFault.{StoreFault}
-use Rattle.duk_store.specs.DiskRecords.{IsBlankDisk, IsEmptyDisk, IsSoundDisk, IsZeroDisk, MayFindItems, RecordsOf, are_running, count_in, records_meaning, records_state}
+use Rattle.duk_store.specs.DiskRecords.{IsBlankDisk, IsEmptyDisk, IsFreshDisk, IsHeaderOf, IsSoundDisk, IsZeroDisk, MayFindItems, RecordsOf, are_running, count_in, records_meaning, records_state}
 use Rattle.duk_store.specs.Format.{FormatMeaning, IsFormat}
-use Rattle.duk_store.specs.MemoryDisk.{memory_disk_state, new_disk}
+use Rattle.duk_store.specs.MemoryDisk.{CouldLeave, memory_disk_state, new_disk, new_disk_with}
 use Rattle.duk_store.specs.Listed.{GroupAppendFailed, IsGroupAppended, IsItemRead, IsItemRefused, ListRestartFailed, ListRestarted, OldOrWithGroup}
-use Rattle.duk_store.specs.Records.{AreClosedFrom, AreListed, HasContents, HasHeader, IsOpen, IsRecordsSize, KeepsItems, gate_of, record_at}
+use Rattle.duk_store.specs.Records.{AreClosedFrom, AreListed, HasContents, HasHeader, IsOpen, IsRecordsSize, KeepsItems, gate_of, identity_in, record_at}
 use Rattle.duk_store.specs.inner.GroupSteps.{GroupFailed, IsGroupTorn, IsGroupWritten, WritesGroup}
 use Rattle.duk_store.specs.inner.Groups.{AreWritten}
 use Rattle.duk_store.specs.inner.RecordSteps.{AreRecordsUp, IsDamagedDisk, KnowsCount, KnowsRecords, RecordsUpFailed, StaysSame}
+use Rattle.duk_store.proofs.Grown.{behind}
+use Rattle.duk_store.proofs.Identity.{first_record, same_identity}
 use Rattle.duk_store.proofs.Kept.{closed_behind, group_kept, item_there, kept_once, kept_onto}
+use Rattle.duk_store.proofs.Places.{no_later}
+use Rattle.duk_store.proofs.WrittenBytes.{gate_is}
 
 -- zeros keep no item
 zeros_closed : (long size place : ℕ) → 2 ≤ long → ¬ IsOpen (record_at long place (replicate size 0))
@@ -47,6 +51,36 @@ module _ {I : Type 0} (format : FormatMeaning I) (laws : IsFormat format) where
       listed = λ later past. zeros_closed long disk.size later laws.has_contents;
     });
   }
+
+  -- a header with zeros behind it keeps no item
+  fresh_keeps : (header : List ℕ) (count : ℕ) → IsHeaderOf format header → KeepsItems format (header ++ replicate count 0) []
+  fresh_keeps header count is = record {
+    header = λ has. subst (λ (l : List ℕ). format.is_header l) (sym (in_front has)) (is.header_is has);
+    listed = closed;
+  }
+    where
+      in_front : 1 ≤ format.headers → record_at long 0 (header ++ replicate count 0) ≡ header
+      in_front has =
+          let one : format.headers ≡ 1 = omega (arith, has, laws.one_header) in
+          let all : long * 1 ≡ long = omega arith in
+          first_record long (header ++ replicate count 0) ∙ take_at header (replicate count 0) long (is.whole ∙ ap (λ (n : ℕ). long * n) one ∙ all)
+
+      closed : AreClosedFrom long format.headers (header ++ replicate count 0)
+      closed later past is_open =
+          let start : ℕ = long * later in
+          let less : long * format.headers ≤ start = no_later long format.headers later past in
+          let gate : gate_of (record_at long later (header ++ replicate count 0)) ≡ 0 =
+          gate_is long laws.has_contents later (header ++ replicate count 0) ∙ behind format laws header count start (omega (arith, less, is.whole)) in
+          absurd (omega (arith, is_open, gate))
+
+  pub fresh_is_empty : (header : List ℕ) (disk : DiskState) → IsFreshDisk format header disk → IsEmptyDisk format disk
+  fresh_is_empty header disk fresh =
+      let count : ℕ = disk.size - length header in
+      record {
+        size = fresh.size;
+        leaves_some = (header ++ replicate count 0, (fresh.fresh (header ++ replicate count 0)).1 refl);
+        each_empty = λ bytes left. subst (λ (l : List ℕ). KeepsItems format l []) (sym ((fresh.fresh bytes).0 left)) (fresh_keeps header count fresh.header_is);
+      }
 
   pub empty_keeps_nothing : (disk : DiskState) → IsEmptyDisk format disk → KeepsNothing (records_state format disk None) []
   empty_keeps_nothing disk empty = record {
@@ -130,7 +164,7 @@ module _ {I : Type 0} (format : FormatMeaning I) (laws : IsFormat format) where
 
   -- ---- a group that is written behind what is kept
 
-  module _ (items group : List I) (count : ℕ) (x y : List ℕ) (keeps : KeepsItems format x items) (counted : length items ≡ count) (some : 1 ≤ length group) where
+  module _ (identity : ℕ) (items group : List I) (count : ℕ) (x y : List ℕ) (keeps : KeepsItems format x items) (counted : length items ≡ count) (own : identity_in format x ≡ identity) (some : 1 ≤ length group) where
     abbrev end : ℕ
     end = format.headers + count
 
@@ -144,18 +178,21 @@ module _ {I : Type 0} (format : FormatMeaning I) (laws : IsFormat format) where
       header_still : HasHeader format y
       header_still has = subst (λ (l : List ℕ). format.is_header l) (sym (beside 0 (inl (omega (arith, has))))) (keeps.header has)
 
-      with_group : AreWritten format (length group) group end y → IsOpen (record_at long end y) → KeepsItems format y (items ++ group)
+      identity_still : identity_in format y ≡ identity_in format x
+      identity_still = same_identity format laws x y (λ has. beside 0 (inl (omega (arith, has))))
+
+      with_group : AreWritten format identity (length group) group end y → IsOpen (record_at long end y) → KeepsItems format y (items ++ group)
       with_group written is_open = record {
         header = header_still;
-        listed = kept_onto format items group 0 format.headers end x y (omega (arith, counted)) keeps.listed (λ place from to. beside place (inl to))
-            (group_kept format group end y some written is_open still_closed);
+        listed = kept_onto format items group 0 format.headers end x y (omega (arith, counted)) keeps.listed (λ place from to. beside place (inl to)) identity_still
+            (group_kept format group end y some (subst (λ (i : ℕ). AreWritten format i (length group) group end y) (sym (identity_still ∙ own)) written) is_open still_closed);
       }
 
       as_before : ¬ IsOpen (record_at long end y) → KeepsItems format y items
       as_before closed = record {
         header = header_still;
         listed = subst (λ (l : List I). AreListed format l y) (append-nil items)
-            (kept_onto format items [] 0 format.headers end x y (omega (arith, counted)) keeps.listed (λ place from to. beside place (inl to)) all_closed);
+            (kept_onto format items [] 0 format.headers end x y (omega (arith, counted)) keeps.listed (λ place from to. beside place (inl to)) identity_still all_closed);
       }
         where
           all_closed : AreClosedFrom long end y
@@ -164,10 +201,10 @@ module _ {I : Type 0} (format : FormatMeaning I) (laws : IsFormat format) where
             | inr other ↦ still_closed later (omega (arith, past, other))
           ]
 
-    pub group_appended : IsGroupWritten format group end x y → KeepsItems format y (items ++ group)
+    pub group_appended : IsGroupWritten format identity group end x y → KeepsItems format y (items ++ group)
     group_appended written = with_group written.gates written.beside written.contents written.is_open
 
-    group_old_or_new : IsGroupTorn format group end x y → KeepsItems format y items ⊎ KeepsItems format y (items ++ group)
+    group_old_or_new : IsGroupTorn format identity group end x y → KeepsItems format y items ⊎ KeepsItems format y (items ++ group)
     group_old_or_new torn = elim (cases_eq (gate_of (record_at long end y)) 1) [
       | inl is_open ↦ elim torn.torn [
         | inl same ↦ absurd (was_closed torn.gates torn.beside end (omega arith) (sym same ∙ is_open))
@@ -176,17 +213,21 @@ module _ {I : Type 0} (format : FormatMeaning I) (laws : IsFormat format) where
       | inr closed ↦ inl (as_before torn.gates torn.beside closed)
     ]
 
-  module _ (before after : DiskState) (group : List I) (count : ℕ) (some : 1 ≤ length group) (knows : KnowsCount format count before) where
-    appended_list : WritesGroup format group (format.headers + count) before after → (h : before.honest) → KeepsItems format after.reads ((knows.holds h).items ++ group)
-    appended_list done h = let has = knows.holds h in group_appended has.items group count before.reads after.reads has.keeps has.counted some (done.written h)
+  module _ (before after : DiskState) (identity : ℕ) (group : List I) (count : ℕ) (some : 1 ≤ length group) (knows : KnowsCount format identity count before) where
+    appended_list : WritesGroup format identity group (format.headers + count) before after → (h : before.honest) → KeepsItems format after.reads ((knows.holds h).items ++ group)
+    appended_list done h = let has = knows.holds h in group_appended identity has.items group count before.reads after.reads has.keeps has.counted (knows.identity_is h) some (done.written h)
 
-    pub knows_group : long * (format.headers + count + length group) ≤ before.size → WritesGroup format group (format.headers + count) before after → KnowsCount format (count + length group) after
+    pub knows_group : long * (format.headers + count + length group) ≤ before.size → WritesGroup format identity group (format.headers + count) before after → KnowsCount format identity (count + length group) after
     knows_group inside done =
         let sum : format.headers + count + length group ≡ format.headers + (count + length group) = omega arith in
         record {
           size = rw done.nature.size knows.size;
           size_fits = rw done.nature.size knows.size_fits;
           fits = rw done.nature.size (subst (λ (n : ℕ). long * n ≤ before.size) sum inside);
+          identity_is = λ honest.
+              let h = done.nature.honest.1 honest in
+              let beside = (done.written h).beside in
+              same_identity format laws before.reads after.reads (λ has. beside 0 (inl (omega (arith, has)))) ∙ knows.identity_is h;
           holds = λ honest.
               let h = done.nature.honest.1 honest in
               let has = knows.holds h in
@@ -198,10 +239,10 @@ module _ {I : Type 0} (format : FormatMeaning I) (laws : IsFormat format) where
               };
         }
 
-    appended_nature : WritesGroup format group (format.headers + count) before after → before.honest → IsSoundDisk format after
+    appended_nature : WritesGroup format identity group (format.headers + count) before after → before.honest → IsSoundDisk format after
     appended_nature done h = sound_one after after.reads ((knows.holds h).items ++ group) (rw done.nature.size knows.size) (done.leaves h) (appended_list done h)
 
-    appended_finds : WritesGroup format group (format.headers + count) before after → before.honest → (items : List I) → ((other : List I) → MayFindItems format before other ↔ (other ≡ items))
+    appended_finds : WritesGroup format identity group (format.headers + count) before after → before.honest → (items : List I) → ((other : List I) → MayFindItems format before other ↔ (other ≡ items))
         → (other : List I) → MayFindItems format after other ↔ (other ≡ items ++ group)
     appended_finds done h items only other =
         let holds = knows.holds h in
@@ -211,17 +252,17 @@ module _ {I : Type 0} (format : FormatMeaning I) (laws : IsFormat format) where
         ((λ could. finds.0 could ∙ list), (λ is. finds.1 (is ∙ sym list)))
 
     -- each image that a stop could leave keeps the list, or the list with the whole group
-    each_list : (why : StoreFault) → GroupFailed format group (format.headers + count) before after why → (kept : Option ℕ) → (h : before.honest) → (bytes : List ℕ) → after.may_leave bytes
+    each_list : (why : StoreFault) → GroupFailed format identity group (format.headers + count) before after why → (kept : Option ℕ) → (h : before.honest) → (bytes : List ℕ) → after.may_leave bytes
         → (items : List I) × KeepsItems format bytes items × OldOrWithGroup (records_state format before kept) group items
     each_list why failed kept h bytes left =
         let holds = knows.holds h in
         let old_list : MayFindItems format before holds.items = (before.reads, (holds.leaves before.reads).1 refl, holds.keeps) in
-        elim (group_old_or_new holds.items group count before.reads bytes holds.keeps holds.counted some (failed.torn h bytes left)) [
+        elim (group_old_or_new identity holds.items group count before.reads bytes holds.keeps holds.counted (knows.identity_is h) some (failed.torn h bytes left)) [
           | inl keeps ↦ (holds.items, keeps, inl old_list)
           | inr keeps ↦ (holds.items ++ group, keeps, inr (holds.items, old_list, refl))
         ]
 
-    append_stops : (why : StoreFault) → GroupFailed format group (format.headers + count) before after why → ReadsMayStay after → (kept : Option ℕ) → Stops (records_state format before kept) (records_state format after None) (OldOrWithGroup (records_state format before kept) group)
+    append_stops : (why : StoreFault) → GroupFailed format identity group (format.headers + count) before after why → ReadsMayStay after → (kept : Option ℕ) → Stops (records_state format before kept) (records_state format after None) (OldOrWithGroup (records_state format before kept) group)
     append_stops why failed stays kept = record {
       nature = record {
         honest = failed.nature.honest;
@@ -240,12 +281,12 @@ module _ {I : Type 0} (format : FormatMeaning I) (laws : IsFormat format) where
     }
 
 -- what is known of a disk of records that may be stopped
-module _ {I : Type 0} (format : FormatMeaning I) (disk : DiskState) where
-  pub kept_inside : (kept : Option ℕ) → KnowsRecords format disk kept → are_running kept ≡ true → format.record_length * (format.headers + count_in kept) ≤ disk.size
+module _ {I : Type 0} (format : FormatMeaning I) (identity : ℕ) (disk : DiskState) where
+  pub kept_inside : (kept : Option ℕ) → KnowsRecords format identity disk kept → are_running kept ≡ true → format.record_length * (format.headers + count_in kept) ≤ disk.size
   kept_inside None knows runs = absurd (false≢true runs)
   kept_inside (Some count) knows runs = knows.fits
 
-  pub leaves_one : (kept : Option ℕ) → KnowsRecords format disk kept → are_running kept ≡ true → disk.honest → LeavesReads disk
+  pub leaves_one : (kept : Option ℕ) → KnowsRecords format identity disk kept → are_running kept ≡ true → disk.honest → LeavesReads disk
   leaves_one None knows runs honest = absurd (false≢true runs)
   leaves_one (Some count) knows runs honest = (knows.holds honest).leaves
 
@@ -287,35 +328,35 @@ module _ {D F I : Type 0} (meaning : DiskMeaning D) (format_of : F → FormatMea
       cause = cause_up (format_of format) laws takes before after visitor refuses kept why failed;
     }
 
-module _ {D F I : Type 0} (meaning : DiskMeaning D) (format_of : F → FormatMeaning I) (format : F) (laws : IsFormat (format_of format)) (old new : D) (group : List I) (count : ℕ) (some : 1 ≤ length group) (knows : KnowsCount (format_of format) count (meaning.state_of old)) where
+module _ {D F I : Type 0} (meaning : DiskMeaning D) (format_of : F → FormatMeaning I) (format : F) (laws : IsFormat (format_of format)) (old new : D) (identity : ℕ) (group : List I) (count : ℕ) (some : 1 ≤ length group) (knows : KnowsCount (format_of format) identity count (meaning.state_of old)) where
   abbrev with_count : D → Option ℕ → RecordsOf D F
   with_count disk kept = record { disk = disk; format = format; kept = kept }
 
-  pub list_appended : (kept : Option ℕ) → kept ≡ Some count → WritesGroup (format_of format) group ((format_of format).headers + count) (meaning.state_of old) (meaning.state_of new)
+  pub list_appended : (kept : Option ℕ) → kept ≡ Some count → WritesGroup (format_of format) identity group ((format_of format).headers + count) (meaning.state_of old) (meaning.state_of new)
       → IsGroupAppended (records_meaning meaning format_of) (with_count old kept) (with_count new (Some (count + length group))) group
   list_appended kept is done = record {
     was_running = ap are_running is;
     nature = record {
       honest = done.nature.honest;
-      sound = λ h sound. appended_nature (format_of format) laws (meaning.state_of old) (meaning.state_of new) group count some knows done h;
+      sound = λ h sound. appended_nature (format_of format) laws (meaning.state_of old) (meaning.state_of new) identity group count some knows done h;
       calm = done.nature.calm;
     };
     no_failure = done.no_failure;
     runs = refl;
-    finds = appended_finds (format_of format) laws (meaning.state_of old) (meaning.state_of new) group count some knows done;
+    finds = appended_finds (format_of format) laws (meaning.state_of old) (meaning.state_of new) identity group count some knows done;
   }
 
-  pub list_append_failed : (kept : Option ℕ) → kept ≡ Some count → (why : StoreFault) → ReadsMayStay (meaning.state_of new) → GroupFailed (format_of format) group ((format_of format).headers + count) (meaning.state_of old) (meaning.state_of new) why
+  pub list_append_failed : (kept : Option ℕ) → kept ≡ Some count → (why : StoreFault) → ReadsMayStay (meaning.state_of new) → GroupFailed (format_of format) identity group ((format_of format).headers + count) (meaning.state_of old) (meaning.state_of new) why
       → GroupAppendFailed (records_meaning meaning format_of) (with_count old kept) (with_count new None) group why
   list_append_failed kept is why stays failed =
       subst (λ (fault : StoreFault). GroupAppendFailed (records_meaning meaning format_of) (with_count old kept) (with_count new None) group fault) (sym failed.failed.fault_is) (record {
         was_running = ap are_running is;
-        stops = append_stops (format_of format) laws (meaning.state_of old) (meaning.state_of new) group count some knows why failed stays kept;
+        stops = append_stops (format_of format) laws (meaning.state_of old) (meaning.state_of new) identity group count some knows why failed stays kept;
         failure = failed.failed.failure;
       })
 
 -- the record of one item is read
-module _ {D F I : Type 0} (meaning : DiskMeaning D) (format_of : F → FormatMeaning I) (format : F) (laws : IsFormat (format_of format)) (old new : D) (count place : ℕ) (knows : KnowsCount (format_of format) count (meaning.state_of old)) (less : place < count) where
+module _ {D F I : Type 0} (meaning : DiskMeaning D) (format_of : F → FormatMeaning I) (format : F) (laws : IsFormat (format_of format)) (old new : D) (identity count place : ℕ) (knows : KnowsCount (format_of format) identity count (meaning.state_of old)) (less : place < count) where
   abbrev having : D → Option ℕ → RecordsOf D F
   having disk kept = record { disk = disk; format = format; kept = kept }
 
@@ -330,7 +371,7 @@ module _ {D F I : Type 0} (meaning : DiskMeaning D) (format_of : F → FormatMea
 
   pub item_read : (kept : Option ℕ) → kept ≡ Some count → (bytes : List ℕ) → StaysSame (meaning.state_of old) (meaning.state_of new)
       → ((meaning.state_of old).honest → bytes ≡ record_at (format_of format).record_length ((format_of format).headers + place) (meaning.state_of old).reads)
-      → IsItemRead (records_meaning meaning format_of) (λ item. (followers : ℕ) × HasContents (format_of format) ((format_of format).headers + place) followers item bytes) (having old kept) (having new (Some count)) place
+      → IsItemRead (records_meaning meaning format_of) (λ item. (followers : ℕ) × HasContents (format_of format) (identity_in (format_of format) (meaning.state_of old).reads) ((format_of format).headers + place) followers item bytes) (having old kept) (having new (Some count)) place
   item_read kept is bytes same bytes_are = record {
     was_running = ap are_running is;
     stays = record {
@@ -345,7 +386,7 @@ module _ {D F I : Type 0} (meaning : DiskMeaning D) (format_of : F → FormatMea
         let keeps = subst (λ (bytes : List ℕ). KeepsItems (format_of format) bytes items) ((holds.leaves finds.0).0 finds.1) finds.2 in
         let counted : length holds.items ≡ length items = ap length (kept_once (format_of format) laws holds.items items 0 (format_of format).headers reads holds.keeps.listed keeps.listed) in
         let it = item_there (format_of format) items 0 (format_of format).headers place reads keeps.listed (omega (arith, less, counted, holds.counted)) in
-        subst (λ (l : List ℕ). (item : I) × (slice_get items place ≡ Some item) × ((followers : ℕ) × HasContents (format_of format) ((format_of format).headers + place) followers item l)) (sym (bytes_are h)) it;
+        subst (λ (l : List ℕ). (item : I) × (slice_get items place ≡ Some item) × ((followers : ℕ) × HasContents (format_of format) (identity_in (format_of format) (meaning.state_of old).reads) ((format_of format).headers + place) followers item l)) (sym (bytes_are h)) it;
   }
 
 -- a new disk in memory, of so many records, is blank
@@ -376,4 +417,47 @@ module _ {I : Type 0} (format : FormatMeaning I) (laws : IsFormat format) (none 
     };
     calm = record { not_armed = refl; no_single_failure = refl };
     empty = zero_is_empty format laws (memory_disk_state (new_disk bytes_of)) none new_disk_is_zero;
+  })
+
+-- and one with a header in front
+module _ {I : Type 0} (format : FormatMeaning I) (laws : IsFormat format) (header : List ℕ) (records : ℕ) (is : IsHeaderOf format header) (some : 1 ≤ records) where
+  abbrev whole_size : ℕ
+  whole_size = format.record_length * records
+
+  abbrev all_bytes : List ℕ
+  all_bytes = header ++ replicate (whole_size - length header) 0
+
+  size_is : length all_bytes ≡ whole_size
+  size_is =
+      let less = no_later format.record_length format.headers records (omega (arith, laws.one_header, some)) in
+      omega (arith, length-append header (replicate (whole_size - length header) 0), length-replicate {A = ℕ} (whole_size - length header) 0, less, is.whole)
+
+  headed_leaves : (bytes : List ℕ) → CouldLeave (new_disk_with header whole_size) bytes ↔ (bytes ≡ all_bytes)
+  headed_leaves bytes = (
+    (λ could. same_number_lists bytes all_bytes could.same_length
+        (λ place less. could.as_synced place (get_or-replicate whole_size place false false (omega (arith, less, could.same_length, size_is))))),
+    (λ are. record { same_length = ap length are; as_synced = λ place none. ap (λ (l : List ℕ). get_or l place 0) are }),
+  )
+
+  headed_is_fresh : IsFreshDisk format header (memory_disk_state (new_disk_with header whole_size))
+  headed_is_fresh = record {
+    size = (records, some, size_is);
+    header_is = is;
+    fresh = λ bytes.
+        let leaves = headed_leaves bytes in
+        let same : all_bytes ≡ header ++ replicate (length all_bytes - length header) 0 = ap (λ (n : ℕ). header ++ replicate (n - length header) 0) (sym size_is) in
+        ((λ could. leaves.0 could ∙ same), (λ are. leaves.1 (are ∙ sym same)));
+  }
+
+  pub headed_records_are_new : IsNew (records_state format (memory_disk_state (new_disk_with header whole_size)) None) []
+  headed_records_are_new = blank_is_new format laws (memory_disk_state (new_disk_with header whole_size)) (record {
+    honest = record {
+      synced_length = refl;
+      wanted_length = refl;
+      unsynced_length = length-replicate whole_size false ∙ sym size_is;
+      reads_synced = λ place none. refl;
+      wanted_synced = λ place none. refl;
+    };
+    calm = record { not_armed = refl; no_single_failure = refl };
+    empty = fresh_is_empty format laws header (memory_disk_state (new_disk_with header whole_size)) headed_is_fresh;
   })

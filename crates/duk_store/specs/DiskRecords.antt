@@ -1,5 +1,5 @@
 -- A list of items in the records of a disk: this project's own.
-use Rattle.std.specs.Prelude.{◌≡◌, ◌↔◌, ◌/◌, ◌-◌, ℕ, Bool, true, false, List, [], replicate, Option, Some, None}
+use Rattle.std.specs.Prelude.{◌≡◌, ◌↔◌, ◌≤◌, ◌*◌, ◌/◌, ◌-◌, ◌++◌, ℕ, Bool, true, false, List, [], length, replicate, Option, Some, None}
 use Rattle.duk_store.specs.Disk.{DiskMeaning, DiskState}
 use Rattle.duk_store.specs.StoreState.{StoreState}
 use Rattle.duk_store.specs.Format.{FormatMeaning}
@@ -82,3 +82,16 @@ pub record IsBlankDisk {I : Type 0} (format : FormatMeaning I) (disk : DiskState
 pub record IsZeroDisk {I : Type 0} (format : FormatMeaning I) (disk : DiskState) : Type 0 where
   pub size : IsRecordsSize format disk.size
   pub zeros : (bytes : List ℕ) → disk.may_leave bytes ↔ (bytes ≡ replicate disk.size 0)
+
+-- the bytes are a header of the format, which are none where it has none
+pub record IsHeaderOf {I : Type 0} (format : FormatMeaning I) (header : List ℕ) : Type 0 where
+  pub whole : length header ≡ format.record_length * format.headers
+  pub header_is : 1 ≤ format.headers → format.is_header header
+
+-- a disk of which a stop leaves this header, and zero bytes behind it
+pub record IsFreshDisk
+    {I : Type 0} (format : FormatMeaning I) (header : List ℕ) (disk : DiskState) : Type 0 where
+  pub size : IsRecordsSize format disk.size
+  pub header_is : IsHeaderOf format header
+  pub fresh : (bytes : List ℕ)
+      → disk.may_leave bytes ↔ (bytes ≡ header ++ replicate (disk.size - length header) 0)

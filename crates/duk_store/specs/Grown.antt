@@ -4,5 +4,5 @@ use Rattle.duk_store.specs.Format.{FormatMeaning}
 
 -- the contents of a record of zeros say nothing in this format
 abbrev pub SaysNoZeros : {I : Type 0} → FormatMeaning I → Type 0
-SaysNoZeros {I} format = (place followers : ℕ) (item : I)
-    → ¬ format.says place followers item (replicate (format.record_length - 1) 0)
+SaysNoZeros {I} format = (identity place followers : ℕ) (item : I)
+    → ¬ format.says identity place followers item (replicate (format.record_length - 1) 0)

@@ -4,7 +4,7 @@ use Rattle.duk_tree.specs.Serial.{Serial, serial_of_bytes}
 use Rattle.duk_store.specs.Format.{FormatMeaning}
 
 -- the contents of a record with a number: its ten bytes, and five zeros. Each is a group of its own.
-pub record SaysNumber (place followers : ℕ) (number : Serial) (contents : List ℕ) : Type 0 where
+pub record SaysNumber (identity place followers : ℕ) (number : Serial) (contents : List ℕ) : Type 0 where
   pub alone : followers ≡ 0
   pub whole : length contents ≡ 15
   pub number_is : number ≡ serial_of_bytes (take 10 contents)
@@ -15,6 +15,7 @@ log_format = record {
   record_length = 16;
   headers = 0;
   is_header = λ record_bytes. ⊥;
+  identity = λ header. 0;
   most = 1;
   may_stand = λ number. Unit {0};
   says = SaysNumber;

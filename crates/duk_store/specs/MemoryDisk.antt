@@ -1,5 +1,5 @@
 -- A disk in memory: this project's own.
-use Rattle.std.specs.Prelude.{◌≡◌, ◌+◌, ◌++◌, ℕ, Bool, true, false, List, length, take, drop, replicate, get_or, slice_index, None}
+use Rattle.std.specs.Prelude.{◌≡◌, ◌+◌, ◌-◌, ◌++◌, ℕ, Bool, true, false, List, length, take, drop, replicate, get_or, slice_index, None}
 use Rattle.duk_store.specs.Disk.{DiskMeaning, DiskState, written}
 use Rattle.duk_store.specs.DiskDevice.{DiskDevice, IsCalmDevice, armed_device, disarmed_device, failing_once, new_disk_device}
 use Rattle.duk_store.specs.declared.memory_disk.Filling.{Filling}
@@ -22,6 +22,17 @@ new_disk size = record {
   reads = replicate size 0;
   synced = replicate size 0;
   wanted = replicate size 0;
+  unsynced = replicate size false;
+  filling = Old;
+  device = new_disk_device;
+}
+
+-- the same with these bytes in front
+abbrev pub new_disk_with : List ℕ → ℕ → MemoryDisk
+new_disk_with front size = record {
+  reads = front ++ replicate (size - length front) 0;
+  synced = front ++ replicate (size - length front) 0;
+  wanted = front ++ replicate (size - length front) 0;
   unsynced = replicate size false;
   filling = Old;
   device = new_disk_device;

@@ -25,10 +25,17 @@ after_gate record_bytes = drop 1 record_bytes
 abbrev pub IsOpen : List ℕ → Type 0
 IsOpen record_bytes = gate_of record_bytes ≡ 1
 
--- a record with this item, after which so many of its group follow
-abbrev pub HasContents : {I : Type 0} → FormatMeaning I → ℕ → ℕ → I → List ℕ → Type 0
-HasContents format place followers item record_bytes =
-    format.says place followers item (after_gate record_bytes)
+-- the header in front, which is empty where the format has none, and the identity that it gives
+abbrev pub header_in : {I : Type 0} → FormatMeaning I → List ℕ → List ℕ
+header_in format bytes = take (format.record_length * format.headers) bytes
+
+abbrev pub identity_in : {I : Type 0} → FormatMeaning I → List ℕ → ℕ
+identity_in format bytes = format.identity (header_in format bytes)
+
+-- on the disk of an identity, a record with this item, after which so many of its group follow
+abbrev pub HasContents : {I : Type 0} → FormatMeaning I → ℕ → ℕ → ℕ → I → List ℕ → Type 0
+HasContents format identity place followers item record_bytes =
+    format.says identity place followers item (after_gate record_bytes)
 
 -- all records from this place on are closed
 abbrev pub AreClosedFrom : ℕ → ℕ → List ℕ → Type 0
@@ -43,11 +50,13 @@ AreKeptFrom format [] zero place bytes = AreClosedFrom format.record_length plac
 AreKeptFrom format [] (suc left) place bytes = ⊥
 AreKeptFrom format (item ∷ later) zero place bytes =
     (followers : ℕ) × IsOpen (record_at format.record_length place bytes)
-    × HasContents format place followers item (record_at format.record_length place bytes)
+    × HasContents format (identity_in format bytes) place followers item
+    (record_at format.record_length place bytes)
     × AreKeptFrom format later followers (place + 1) bytes
 AreKeptFrom format (item ∷ later) (suc left) place bytes =
     (¬ IsOpen (record_at format.record_length place bytes))
-    × HasContents format place 0 item (record_at format.record_length place bytes)
+    × HasContents format (identity_in format bytes) place 0 item
+    (record_at format.record_length place bytes)
     × AreKeptFrom format later left (place + 1) bytes
 
 -- these items are kept behind the header

@@ -12,10 +12,11 @@ use crate::fault::StoreFault;
 use crate::format::{Format, OPEN};
 
 /// Writes a group from a closed record on, and opens it once that is synced: the device calls of an
-/// append (`Records::append`).
+/// append (`Records::append`). The disk has this identity.
 pub fn write_group<D: Disk, F: Format>(
     disk: &mut D,
     format: &F,
+    identity: u64,
     place: u64,
     group: &[F::Item],
     piece: &mut [u8],
@@ -26,13 +27,13 @@ pub fn write_group<D: Disk, F: Format>(
         (D.meaning.state_of disk.old) }
     requires one { LeavesOne (D.meaning.state_of disk.old) }
     requires piece { (F.meaning format.now).record_length ≤ length piece.old }
-    ensures written { OnOk result (WritesGroup (F.meaning format.now) group.now place
+    ensures written { OnOk result (WritesGroup (F.meaning format.now) identity group.now place
         (D.meaning.state_of disk.old) (D.meaning.state_of disk.new)) }
-    ensures failed { IfErr result (GroupFailed (F.meaning format.now) group.now place
+    ensures failed { IfErr result (GroupFailed (F.meaning format.now) identity group.now place
         (D.meaning.state_of disk.old) (D.meaning.state_of disk.new)) }
     ensures arming { StaysArmed (D.meaning.state_of disk.old) (D.meaning.state_of disk.new) }
 {
-    sync_contents(disk, format, place, group, piece)?;
+    sync_contents(disk, format, identity, place, group, piece)?;
     open_gate(disk, format.record_length(), place)
 }
 
@@ -40,6 +41,7 @@ pub fn write_group<D: Disk, F: Format>(
 fn sync_contents<D: Disk, F: Format>(
     disk: &mut D,
     format: &F,
+    identity: u64,
     place: u64,
     group: &[F::Item],
     piece: &mut [u8],
@@ -50,13 +52,13 @@ fn sync_contents<D: Disk, F: Format>(
         (D.meaning.state_of disk.old) }
     requires one { LeavesOne (D.meaning.state_of disk.old) }
     requires piece { (F.meaning format.now).record_length ≤ length piece.old }
-    ensures synced { OnOk result (SyncsContents (F.meaning format.now) group.now place
+    ensures synced { OnOk result (SyncsContents (F.meaning format.now) identity group.now place
         (D.meaning.state_of disk.old) (D.meaning.state_of disk.new)) }
     ensures failed { IfErr result (ContentsFailed (F.meaning format.now).record_length place
         (length group.now) (D.meaning.state_of disk.old) (D.meaning.state_of disk.new)) }
     ensures arming { StaysArmed (D.meaning.state_of disk.old) (D.meaning.state_of disk.new) }
 {
-    write_contents(disk, format, place, group, piece)?;
+    write_contents(disk, format, identity, place, group, piece)?;
     disk.sync()
 }
 
@@ -80,6 +82,7 @@ fn open_gate<D: Disk>(disk: &mut D, long: usize, place: u64) -> Result<(), Store
 fn write_contents<D: Disk, F: Format>(
     disk: &mut D,
     format: &F,
+    identity: u64,
     place: u64,
     group: &[F::Item],
     piece: &mut [u8],
@@ -90,7 +93,7 @@ fn write_contents<D: Disk, F: Format>(
         (D.meaning.state_of disk.old) }
     requires one { LeavesOne (D.meaning.state_of disk.old) }
     requires piece { (F.meaning format.now).record_length ≤ length piece.old }
-    ensures written { OnOk result (WritesContents (F.meaning format.now) (length group.now)
+    ensures written { OnOk result (WritesContents (F.meaning format.now) identity (length group.now)
         group.now place (D.meaning.state_of disk.old) (D.meaning.state_of disk.new)) }
     ensures failed { IfErr result (ContentsFailed (F.meaning format.now).record_length place
         (length group.now) (D.meaning.state_of disk.old) (D.meaning.state_of disk.new)) }
@@ -101,6 +104,7 @@ fn write_contents<D: Disk, F: Format>(
         write_record(
             disk,
             format,
+            identity,
             place + index as u64,
             followers,
             &group[index],
@@ -114,6 +118,7 @@ fn write_contents<D: Disk, F: Format>(
 fn write_record<D: Disk, F: Format>(
     disk: &mut D,
     format: &F,
+    identity: u64,
     place: u64,
     followers: u16,
     item: &F::Item,
@@ -130,7 +135,7 @@ fn write_record<D: Disk, F: Format>(
         ((F.meaning format.now).record_length - 1))
         (D.meaning.state_of disk.old) (D.meaning.state_of disk.new) }
     ensures written { OnOk result ((D.meaning.state_of disk.old).honest
-        → IsRecordWritten (F.meaning format.now) place followers item.now
+        → IsRecordWritten (F.meaning format.now) identity place followers item.now
         (D.meaning.state_of disk.old).reads (D.meaning.state_of disk.new).reads) }
     ensures no_failure { OnOk result
         ((D.meaning.state_of disk.new).failures ≡ (D.meaning.state_of disk.old).failures) }
@@ -141,7 +146,7 @@ fn write_record<D: Disk, F: Format>(
 {
     let long = format.record_length();
     let contents = &mut piece[1..long];
-    format.write(place, followers, item, contents);
+    format.write(identity, place, followers, item, contents);
     disk.write_at(byte_of(long, place, 1), contents)
 }
 

@@ -4,11 +4,11 @@ ghost use Rattle.std.specs.Prelude.{◌≡◌, ◌↔◌, ◌≤◌, ◌*◌, �
 ghost use Rattle.duk_store.specs.Cell.{Kept, PutFailed};
 ghost use Rattle.duk_store.specs.CellCalls.{AreCellCalls, FindsAtMostTwo, FindsOneOf, FindsOneWhileItRuns};
 ghost use Rattle.duk_store.specs.DiskLog.{IsSoundLogDisk, MayFindNumbers, disk_log_meaning, new_disk_log};
-ghost use Rattle.duk_store.specs.DiskRecords.{records_state};
+ghost use Rattle.duk_store.specs.DiskRecords.{IsHeaderOf, records_state};
 ghost use Rattle.duk_store.specs.Grown.{SaysNoZeros};
 ghost use Rattle.duk_store.specs.Log.{Numbers};
 ghost use Rattle.duk_store.specs.LogFormat.{log_format};
-ghost use Rattle.duk_store.specs.MemoryDisk.{memory_disk_meaning, memory_disk_state, new_disk};
+ghost use Rattle.duk_store.specs.MemoryDisk.{memory_disk_meaning, memory_disk_state, new_disk, new_disk_with};
 ghost use Rattle.duk_store.specs.RecordFormat.{IsLogSize, KeepsNumbers};
 ghost use Rattle.duk_store.specs.Records.{IsRecordsSize, KeepsItems};
 ghost use Rattle.duk_store.specs.SlotCell.{new_slot_cell, slot_cell_meaning};
@@ -33,6 +33,15 @@ pub fn new_disk_records<F: Format>(format: &F)
     ensures { (F.meaning format.now).headers ≡ 0 → (records : ℕ) → 1 ≤ records
         → IsNew (records_state (F.meaning format.now) (memory_disk_state
         (new_disk ((F.meaning format.now).record_length * records))) None) [] }
+{
+    format.laws();
+}
+
+/// The same of a format with a header, over a new disk in memory that has one in front.
+pub fn new_headed_records<F: Format>(format: &F)
+    ensures { (header : List ℕ) (records : ℕ) → IsHeaderOf (F.meaning format.now) header
+        → 1 ≤ records → IsNew (records_state (F.meaning format.now) (memory_disk_state
+        (new_disk_with header ((F.meaning format.now).record_length * records))) None) [] }
 {
     format.laws();
 }

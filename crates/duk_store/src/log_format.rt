@@ -36,12 +36,16 @@ impl Format for LogFormat {
         false
     }
 
-    fn write(&self, _place: u64, _followers: u16, item: &Ksn, contents: &mut [u8]) {
+    fn identity(&self, _header: &[u8]) -> u64 {
+        0
+    }
+
+    fn write(&self, _identity: u64, _place: u64, _followers: u16, item: &Ksn, contents: &mut [u8]) {
         duk_tree::laws::serials();
         contents.copy_from_slice(&number_bytes(*item));
     }
 
-    fn read(&self, _place: u64, contents: &[u8]) -> Option<(u16, Ksn)> {
+    fn read(&self, _identity: u64, _place: u64, contents: &[u8]) -> Option<(u16, Ksn)> {
         if contents[10..] != [0; 5] {
             return None;
         }

@@ -3,13 +3,13 @@
 ghost use Rattle.std.specs.Prelude.{◌≡◌, ◌+◌, ◌-◌, ◌<◌, ◌≤◌, ◌++◌, length, take, drop, replicate, refl, slice_index, None, IsOk, IfOk, IfErr, OnOk, OnErr};
 ghost use Rattle.duk_store.specs.Disk.{StaysArmed, PreservesDisk, PreservesBytes, LeavesChanged, LeavesReads, LeavesWithin, DiffersWithin, HasFailed, IsSynced, StaysButArmed, range_of, written};
 ghost use Rattle.duk_store.specs.DiskDevice.{HasDiskStepPassed, IsCalmDevice, IsDiskStepDue};
-ghost use Rattle.duk_store.specs.MemoryDisk.{IsHonestDisk, IsRefilled, SameButDevice, armed_disk, byte_left, disarmed_disk, disk_failing_once, memory_disk_meaning, memory_disk_state, new_disk, synced_disk, wanting, written_disk};
+ghost use Rattle.duk_store.specs.MemoryDisk.{IsHonestDisk, IsRefilled, SameButDevice, armed_disk, byte_left, disarmed_disk, disk_failing_once, memory_disk_meaning, memory_disk_state, new_disk, new_disk_with, synced_disk, wanting, written_disk};
 ghost use Rattle.duk_store.specs.inner.MemoryDisk.{IsMarked, refilled_at};
 
 use crate::disk::Disk;
 use crate::disk_device::DiskDevice;
 use crate::fault::StoreFault;
-use std::alloc::Global;
+use std::alloc::{AllocError, Global};
 use std::marker::Model;
 
 /// What a restart of a disk in memory leaves in each byte that was written since the last sync.
@@ -86,6 +86,26 @@ impl MemDisk {
             reads: vec![in alloc; 0; size]?,
             synced: vec![in alloc; 0; size]?,
             wanted: vec![in alloc; 0; size]?,
+            unsynced: vec![in alloc; false; size]?,
+            from: 0,
+            to: 0,
+            chosen: Filling::Old,
+            device: DiskDevice::new(),
+        })
+    }
+
+    /// The same with these bytes in front of the zeros.
+    ///
+    /// Refused with `NoMemory` where the memory for all that later calls need is.
+    pub fn with_front(alloc: Global, front: &[u8], size: usize) -> Result<MemDisk, StoreFault>
+        requires { length front.now ≤ size }
+        ensures disk { IfOk result (λ disk. disk ≡ new_disk_with front.now size) }
+        ensures refused { IfErr result (λ fault. fault ≡ StoreFault.NoMemory) }
+    {
+        Ok(MemDisk {
+            reads: zeros_behind(alloc, front, size)?,
+            synced: zeros_behind(alloc, front, size)?,
+            wanted: zeros_behind(alloc, front, size)?,
             unsynced: vec![in alloc; false; size]?,
             from: 0,
             to: 0,
@@ -320,4 +340,18 @@ fn set_flags(flags: &mut [bool], at: usize, count: usize, flag: bool)
         ≡ take at flags.old ++ (replicate count flag ++ drop (at + count) flags.old) }
 {
     flags[at..at + count].fill(flag);
+}
+
+/// Bytes, and behind them as many zeros as make a size.
+///
+/// Refused where the memory for them is.
+fn zeros_behind(alloc: Global, front: &[u8], size: usize) -> Result<Vec<u8>, AllocError>
+    requires { length front.now ≤ size }
+    ensures bytes { IfOk result
+        (λ bytes. bytes.items ≡ front.now ++ replicate (size - length front.now) 0) }
+{
+    let mut bytes = Vec::new(alloc);
+    bytes.extend_from_slice(front)?;
+    bytes.resize(size, 0)?;
+    Ok(bytes)
 }

@@ -27,11 +27,13 @@ pub enum Reading {
     },
 }
 
-/// Reads so many records, which are the piece, and gives their items to a visitor.
+/// Reads so many records, which are the piece, of the disk of an identity, and gives their items to a
+/// visitor.
 ///
 /// Refused with `Damaged` where no list of items goes on so, and as the visitor refuses.
 pub fn read_piece<F: Format, V: Visitor<F::Item>>(
     format: &F,
+    identity: u64,
     reading: Reading,
     count: usize,
     piece: &[u8],
@@ -41,15 +43,15 @@ pub fn read_piece<F: Format, V: Visitor<F::Item>>(
     requires whole { length piece.now ≡ (F.meaning format.now).record_length * count }
     requires fits { kept_in reading + count < 2 ^ 63 }
     ensures read { IfOk result (ReadsOn (F.meaning format.now) V.takes reading count
-        (IsPieceAt (F.meaning format.now).record_length piece.now) visitor.old visitor.new) }
+        (IsPieceAt (F.meaning format.now) identity piece.now) visitor.old visitor.new) }
     ensures refused { IfErr result (IsUnreadable (F.meaning format.now) V.takes V.refuses reading
-        (IsPieceAt (F.meaning format.now).record_length piece.now) visitor.old) }
+        (IsPieceAt (F.meaning format.now) identity piece.now) visitor.old) }
 {
     let long = format.record_length();
     let mut reading = reading;
     for index in 0..count {
         let at = long * index;
-        reading = read_next(format, reading, &piece[at..at + long], visitor)?;
+        reading = read_next(format, identity, reading, &piece[at..at + long], visitor)?;
     }
     Ok(reading)
 }
@@ -57,6 +59,7 @@ pub fn read_piece<F: Format, V: Visitor<F::Item>>(
 /// Reads one more record.
 fn read_next<F: Format, V: Visitor<F::Item>>(
     format: &F,
+    identity: u64,
     reading: Reading,
     bytes: &[u8],
     visitor: &mut V,
@@ -65,17 +68,17 @@ fn read_next<F: Format, V: Visitor<F::Item>>(
     requires whole { length bytes.now ≡ (F.meaning format.now).record_length }
     requires fits { kept_in reading + 1 < 2 ^ 63 }
     ensures read { IfOk result (ReadsOn (F.meaning format.now) V.takes reading 1
-        (IsRecordAt (F.meaning format.now).record_length bytes.now) visitor.old visitor.new) }
+        (IsRecordAt (F.meaning format.now) identity bytes.now) visitor.old visitor.new) }
     ensures refused { IfErr result (IsUnreadable (F.meaning format.now) V.takes V.refuses reading
-        (IsRecordAt (F.meaning format.now).record_length bytes.now) visitor.old) }
+        (IsRecordAt (F.meaning format.now) identity bytes.now) visitor.old) }
 {
     match reading {
-        Reading::Behind { kept } => read_behind(format, kept, bytes, visitor),
+        Reading::Behind { kept } => read_behind(format, identity, kept, bytes, visitor),
         Reading::Groups { kept, left } => {
             if left == 0 {
-                read_first(format, kept, bytes, visitor)
+                read_first(format, identity, kept, bytes, visitor)
             } else {
-                read_follower(format, kept, left, bytes, visitor)
+                read_follower(format, identity, kept, left, bytes, visitor)
             }
         }
     }
@@ -84,6 +87,7 @@ fn read_next<F: Format, V: Visitor<F::Item>>(
 /// Reads a record behind the groups, which is closed.
 fn read_behind<F: Format, V: Visitor<F::Item>>(
     format: &F,
+    identity: u64,
     kept: u64,
     bytes: &[u8],
     visitor: &mut V,
@@ -91,9 +95,9 @@ fn read_behind<F: Format, V: Visitor<F::Item>>(
     requires format { IsFormat (F.meaning format.now) }
     requires whole { length bytes.now ≡ (F.meaning format.now).record_length }
     ensures read { IfOk result (ReadsOn (F.meaning format.now) V.takes (Behind kept) 1
-        (IsRecordAt (F.meaning format.now).record_length bytes.now) visitor.old visitor.new) }
+        (IsRecordAt (F.meaning format.now) identity bytes.now) visitor.old visitor.new) }
     ensures refused { IfErr result (IsUnreadable (F.meaning format.now) V.takes V.refuses
-        (Behind kept) (IsRecordAt (F.meaning format.now).record_length bytes.now) visitor.old) }
+        (Behind kept) (IsRecordAt (F.meaning format.now) identity bytes.now) visitor.old) }
 {
     if bytes[0] == OPEN {
         Err(StoreFault::Damaged)
@@ -105,6 +109,7 @@ fn read_behind<F: Format, V: Visitor<F::Item>>(
 /// Reads a record in a group's place: the first of a group, or the first behind all.
 fn read_first<F: Format, V: Visitor<F::Item>>(
     format: &F,
+    identity: u64,
     kept: u64,
     bytes: &[u8],
     visitor: &mut V,
@@ -113,14 +118,14 @@ fn read_first<F: Format, V: Visitor<F::Item>>(
     requires whole { length bytes.now ≡ (F.meaning format.now).record_length }
     requires fits { kept + 1 < 2 ^ 63 }
     ensures read { IfOk result (ReadsOn (F.meaning format.now) V.takes (Groups kept 0) 1
-        (IsRecordAt (F.meaning format.now).record_length bytes.now) visitor.old visitor.new) }
+        (IsRecordAt (F.meaning format.now) identity bytes.now) visitor.old visitor.new) }
     ensures refused { IfErr result (IsUnreadable (F.meaning format.now) V.takes V.refuses
-        (Groups kept 0) (IsRecordAt (F.meaning format.now).record_length bytes.now) visitor.old) }
+        (Groups kept 0) (IsRecordAt (F.meaning format.now) identity bytes.now) visitor.old) }
 {
     if bytes[0] != OPEN {
         return Ok(Reading::Behind { kept });
     }
-    let said = contents_in(format, kept, bytes)?;
+    let said = contents_in(format, identity, kept, bytes)?;
     visitor.take(&said.1)?;
     Ok(Reading::Groups {
         kept: kept + 1,
@@ -132,6 +137,7 @@ fn read_first<F: Format, V: Visitor<F::Item>>(
 /// follows.
 fn read_follower<F: Format, V: Visitor<F::Item>>(
     format: &F,
+    identity: u64,
     kept: u64,
     left: u16,
     bytes: &[u8],
@@ -142,15 +148,15 @@ fn read_follower<F: Format, V: Visitor<F::Item>>(
     requires fits { kept + 1 < 2 ^ 63 }
     requires some { 1 ≤ left }
     ensures read { IfOk result (ReadsOn (F.meaning format.now) V.takes (Groups kept left) 1
-        (IsRecordAt (F.meaning format.now).record_length bytes.now) visitor.old visitor.new) }
+        (IsRecordAt (F.meaning format.now) identity bytes.now) visitor.old visitor.new) }
     ensures refused { IfErr result (IsUnreadable (F.meaning format.now) V.takes V.refuses
-        (Groups kept left) (IsRecordAt (F.meaning format.now).record_length bytes.now)
+        (Groups kept left) (IsRecordAt (F.meaning format.now) identity bytes.now)
         visitor.old) }
 {
     if bytes[0] == OPEN {
         return Err(StoreFault::Damaged);
     }
-    let said = contents_in(format, kept, bytes)?;
+    let said = contents_in(format, identity, kept, bytes)?;
     if said.0 != 0 {
         return Err(StoreFault::Damaged);
     }
@@ -164,16 +170,22 @@ fn read_follower<F: Format, V: Visitor<F::Item>>(
 /// What the contents of the record behind so many items say.
 ///
 /// Refused with `Damaged` where they are none of the format's.
-fn contents_in<F: Format>(format: &F, kept: u64, bytes: &[u8]) -> Result<(u16, F::Item), StoreFault>
+fn contents_in<F: Format>(
+    format: &F,
+    identity: u64,
+    kept: u64,
+    bytes: &[u8],
+) -> Result<(u16, F::Item), StoreFault>
     requires format { IsFormat (F.meaning format.now) }
     requires whole { length bytes.now ≡ (F.meaning format.now).record_length }
     requires fits { kept + 1 < 2 ^ 63 }
-    ensures found { IfOk result (λ found. HasContents (F.meaning format.now)
+    ensures found { IfOk result (λ found. HasContents (F.meaning format.now) identity
         ((F.meaning format.now).headers + kept) found.0 found.1 bytes.now) }
     ensures none { IfErr result (λ fault. (fault ≡ StoreFault.Damaged)
-        × HasNoContents (F.meaning format.now) ((F.meaning format.now).headers + kept) bytes.now) }
+        × HasNoContents (F.meaning format.now) identity ((F.meaning format.now).headers + kept)
+        bytes.now) }
 {
-    match format.read(format.headers() + kept, &bytes[1..]) {
+    match format.read(identity, format.headers() + kept, &bytes[1..]) {
         Some(found) => Ok(found),
         None => Err(StoreFault::Damaged),
     }

@@ -7,13 +7,22 @@ ghost use Rattle.duk_store.specs.Disk.{StaysArmed};
 ghost use Rattle.duk_store.specs.inner.GroupSteps.{HasRecords};
 ghost use Rattle.duk_store.specs.inner.Reading.{kept_in};
 ghost use Rattle.duk_store.specs.declared.reading.Reading.TheVariants.{Groups};
-ghost use Rattle.duk_store.specs.inner.RecordSteps.{AreAllRead, AreRecordsRead, AreRecordsUp, HeaderFailed, IsDiskOpen, OpenFailed, RecordUnread, RecordsUnread, RecordsUpFailed, StaysSame};
+ghost use Rattle.duk_store.specs.inner.RecordSteps.{AreAllRead, AreRecordsRead, AreRecordsUp, HasIdentity, HeaderFailed, IsDiskOpen, OpenFailed, RecordUnread, RecordsUnread, RecordsUpFailed, StaysSame};
 
 use crate::disk::Disk;
 use crate::fault::StoreFault;
 use crate::format::Format;
 use crate::reading::{Reading, finish_reading, read_piece};
 use crate::visitor::Visitor;
+
+/// What a disk of records is found to be.
+#[derive(Clone, Copy)]
+pub struct Found {
+    /// The identity that its header gives it.
+    pub identity: u64,
+    /// How many items it keeps.
+    pub count: u64,
+}
 
 /// Brings a disk of records up, gives its items to a visitor, and counts them: the disk's own
 /// restart, a test of its size, a sync, a read of the header where there is one, and reads of pieces
@@ -26,17 +35,21 @@ pub fn bring_up<D: Disk, F: Format, V: Visitor<F::Item>>(
     format: &F,
     piece: &mut [u8],
     visitor: &mut V,
-) -> Result<u64, StoreFault>
+) -> Result<Found, StoreFault>
     requires format { IsFormat (F.meaning format.now) }
     requires piece { (F.meaning format.now).record_length ≤ length piece.old }
-    ensures up { IfOk result (AreRecordsUp (F.meaning format.now) V.takes
-        (D.meaning.state_of disk.old) (D.meaning.state_of disk.new) visitor.old visitor.new) }
+    ensures up { IfOk result (λ found. AreRecordsUp (F.meaning format.now) V.takes
+        (D.meaning.state_of disk.old) (D.meaning.state_of disk.new) visitor.old visitor.new
+        found.count) }
+    ensures identity { IfOk result (λ found. HasIdentity (F.meaning format.now) found.identity
+        (D.meaning.state_of disk.new)) }
     ensures failed { IfErr result (RecordsUpFailed (F.meaning format.now) V.takes V.refuses
         (D.meaning.state_of disk.old) (D.meaning.state_of disk.new) visitor.old) }
 {
     open_disk(disk, format)?;
-    read_header(disk, format, piece)?;
-    visit_records(disk, format, piece, visitor)
+    let identity = read_header(disk, format, piece)?;
+    let count = visit_records(disk, format, identity, piece, visitor)?;
+    Ok(Found { identity, count })
 }
 
 /// Brings the disk up. It has one possible image then.
@@ -65,7 +78,7 @@ fn is_records_size<F: Format>(format: &F, size: u64) -> bool
     size != 0 && size % format.record_length() as u64 == 0
 }
 
-/// Reads the header, where the format has one.
+/// Reads the header, where the format has one, and the identity that it gives the disk.
 ///
 /// Refused with `Device` where the device step failed, and with `Damaged` where it is none of the
 /// format's.
@@ -73,7 +86,7 @@ fn read_header<D: Disk, F: Format>(
     disk: &mut D,
     format: &F,
     piece: &mut [u8],
-) -> Result<(), StoreFault>
+) -> Result<u64, StoreFault>
     requires format { IsFormat (F.meaning format.now) }
     requires size { IsRecordsSize (F.meaning format.now) (D.meaning.state_of disk.old).size }
     requires piece { (F.meaning format.now).record_length ≤ length piece.old }
@@ -81,17 +94,19 @@ fn read_header<D: Disk, F: Format>(
         (StaysSame (D.meaning.state_of disk.old) (D.meaning.state_of disk.new)) }
     ensures header { OnOk result ((D.meaning.state_of disk.old).honest
         → HasHeader (F.meaning format.now) (D.meaning.state_of disk.old).reads) }
+    ensures identity { IfOk result (λ identity. HasIdentity (F.meaning format.now) identity
+        (D.meaning.state_of disk.old)) }
     ensures failed { IfErr result (HeaderFailed (F.meaning format.now)
         (D.meaning.state_of disk.old) (D.meaning.state_of disk.new)) }
     ensures length { length piece.new ≡ length piece.old }
 {
     if format.headers() == 0 {
-        return Ok(());
+        return Ok(format.identity(&[]));
     }
     let bytes = &mut piece[..format.record_length()];
     disk.read_at(0, bytes)?;
     if format.is_header(bytes) {
-        Ok(())
+        Ok(format.identity(bytes))
     } else {
         Err(StoreFault::Damaged)
     }
@@ -104,10 +119,12 @@ fn read_header<D: Disk, F: Format>(
 fn visit_records<D: Disk, F: Format, V: Visitor<F::Item>>(
     disk: &mut D,
     format: &F,
+    identity: u64,
     piece: &mut [u8],
     visitor: &mut V,
 ) -> Result<u64, StoreFault>
     requires format { IsFormat (F.meaning format.now) }
+    requires identity { HasIdentity (F.meaning format.now) identity (D.meaning.state_of disk.old) }
     requires size { IsRecordsSize (F.meaning format.now) (D.meaning.state_of disk.old).size }
     requires piece { (F.meaning format.now).record_length ≤ length piece.old }
     ensures read { IfOk result (AreAllRead (F.meaning format.now) V.takes
@@ -123,7 +140,9 @@ fn visit_records<D: Disk, F: Format, V: Visitor<F::Item>>(
     while place < records {
         let count = (records - place).min((piece.len() / long) as u64) as usize;
         let bytes = &mut piece[..long * count];
-        reading = read_records(disk, format, place, count, reading, bytes, visitor)?;
+        reading = read_records(
+            disk, format, identity, place, count, reading, bytes, visitor,
+        )?;
         place += count as u64;
     }
     finish_reading(format, reading)
@@ -151,6 +170,7 @@ pub fn read_record<D: Disk>(disk: &mut D, place: u64, bytes: &mut [u8]) -> Resul
 fn read_records<D: Disk, F: Format, V: Visitor<F::Item>>(
     disk: &mut D,
     format: &F,
+    identity: u64,
     place: u64,
     count: usize,
     reading: Reading,
@@ -158,6 +178,7 @@ fn read_records<D: Disk, F: Format, V: Visitor<F::Item>>(
     visitor: &mut V,
 ) -> Result<Reading, StoreFault>
     requires format { IsFormat (F.meaning format.now) }
+    requires identity { HasIdentity (F.meaning format.now) identity (D.meaning.state_of disk.old) }
     requires whole { length piece.old ≡ (F.meaning format.now).record_length * count }
     requires inside { (F.meaning format.now).record_length * (place + count)
         ≤ (D.meaning.state_of disk.old).size }
@@ -170,5 +191,5 @@ fn read_records<D: Disk, F: Format, V: Visitor<F::Item>>(
     ensures length { length piece.new ≡ length piece.old }
 {
     disk.read_at(format.record_length() as u64 * place, piece)?;
-    read_piece(format, reading, count, piece, visitor)
+    read_piece(format, identity, reading, count, piece, visitor)
 }

@@ -1,11 +1,11 @@
 //! A list of items in the records of a disk, and the device calls of an append.
 
-ghost use Rattle.std.specs.Prelude.{◌≡◌, ◌+◌, ◌*◌, ◌<◌, ◌≤◌, ℕ, [], true, length, IfErr, IfOk, OnOk};
+ghost use Rattle.std.specs.Prelude.{◌≡◌, ◌+◌, ◌*◌, ◌<◌, ◌≤◌, ℕ, List, [], true, length, IfErr, IfOk, OnOk};
 ghost use Rattle.duk_store.specs.Disk.{LeavesReads, LeavesWithin, StaysArmed};
 ghost use Rattle.duk_store.specs.StoreState.{IsNew, KeepsNothing, StaysButCalm};
-ghost use Rattle.duk_store.specs.DiskRecords.{IsBlankDisk, IsEmptyDisk, IsZeroDisk, are_running, count_in, new_records, records_meaning};
+ghost use Rattle.duk_store.specs.DiskRecords.{IsBlankDisk, IsEmptyDisk, IsFreshDisk, IsZeroDisk, are_running, count_in, new_records, records_meaning};
 ghost use Rattle.duk_store.specs.Listed.{GroupAppendFailed, IsGroupAppended, IsItemRead, ItemReadFailed, ListRestartFailed, ListRestarted, length_of, room_of};
-ghost use Rattle.duk_store.specs.Records.{HasContents, IsGroup};
+ghost use Rattle.duk_store.specs.Records.{HasContents, IsGroup, identity_in};
 
 use crate::disk::Disk;
 use crate::fault::StoreFault;
@@ -27,6 +27,8 @@ use std::marker::Model;
 pub struct Records<D: Disk, F: Format> {
     disk: D,
     format: F,
+    /// The identity that the header gives the disk, while the records run.
+    identity: u64,
     /// How many items are kept, while the records run.
     kept: Option<u64>,
 }
@@ -45,7 +47,8 @@ impl<D: Disk, F: Format> Model for Records<D, F> {
     } };
 
     ghost invariant = { λ records. IsFormat (F.meaning records.format)
-        × KnowsRecords (F.meaning records.format) (D.meaning.state_of records.disk) records.kept };
+        × KnowsRecords (F.meaning records.format) records.identity
+        (D.meaning.state_of records.disk) records.kept };
 }
 
 impl<D: Disk, F: Format> Records<D, F> {
@@ -59,11 +62,15 @@ impl<D: Disk, F: Format> Records<D, F> {
         ensures zeros { (F.meaning format).headers ≡ 0
             → IsZeroDisk (F.meaning format) (D.meaning.state_of disk)
             → IsEmptyDisk (F.meaning format) (D.meaning.state_of disk) }
+        ensures fresh { (header : List ℕ)
+            → IsFreshDisk (F.meaning format) header (D.meaning.state_of disk)
+            → IsEmptyDisk (F.meaning format) (D.meaning.state_of disk) }
     {
         format.laws();
         Records {
             disk,
             format,
+            identity: 0,
             kept: None,
         }
     }
@@ -105,6 +112,8 @@ impl<D: Disk, F: Format> Records<D, F> {
             (λ found. (records_meaning D.meaning F.meaning).count self.new ≡ found) }
         ensures capacity { (records_meaning D.meaning F.meaning).capacity self.new
             ≡ (records_meaning D.meaning F.meaning).capacity self.old }
+        ensures size { (D.meaning.state_of self.new.disk).size
+            ≡ (D.meaning.state_of self.old.disk).size }
         ensures failed { IfErr result (ListRestartFailed (records_meaning D.meaning F.meaning)
             V.takes V.refuses self.old self.new visitor.old) }
         ensures disarmed { (records_meaning D.meaning F.meaning).disarmed self.new }
@@ -113,9 +122,10 @@ impl<D: Disk, F: Format> Records<D, F> {
         ensures format { self.new.format ≡ self.old.format }
     {
         self.kept = None;
-        let count = bring_up(&mut self.disk, &self.format, piece, visitor)?;
-        self.kept = Some(count);
-        Ok(count)
+        let found = bring_up(&mut self.disk, &self.format, piece, visitor)?;
+        self.identity = found.identity;
+        self.kept = Some(found.count);
+        Ok(found.count)
     }
 
     /// How many items are kept; none while the records are stopped.
@@ -152,6 +162,7 @@ impl<D: Disk, F: Format> Records<D, F> {
             → place < (records_meaning D.meaning F.meaning).count self.old }
         ensures read { OnOk result (IsItemRead (records_meaning D.meaning F.meaning)
             (λ item. (followers : ℕ) × HasContents (F.meaning self.old.format)
+            (identity_in (F.meaning self.old.format) (D.meaning.state_of self.old.disk).reads)
             ((F.meaning self.old.format).headers + place) followers item bytes.new)
             self.old self.new place) }
         ensures counted { OnOk result ((records_meaning D.meaning F.meaning).count self.new
@@ -213,7 +224,14 @@ impl<D: Disk, F: Format> Records<D, F> {
         };
         self.kept = None;
         let place = self.format.headers() + count;
-        write_group(&mut self.disk, &self.format, place, group, piece)?;
+        write_group(
+            &mut self.disk,
+            &self.format,
+            self.identity,
+            place,
+            group,
+            piece,
+        )?;
         self.kept = Some(count + group.len() as u64);
         Ok(())
     }

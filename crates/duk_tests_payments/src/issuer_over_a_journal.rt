@@ -6,7 +6,7 @@ use crate::issuer::Counting;
 use crate::security_module::security_module;
 use duk_frame::Frame;
 use duk_host::HostFault;
-use duk_journal::DiskJournal;
+use duk_journal::{DiskJournal, RECORD_LENGTH, journal_header};
 use duk_journal_host::{Group, JournalHost};
 use duk_store::{MemDisk, StoreFault};
 use duk_tests_support::frames::{FIRST_REVERSAL, REQUEST_OF_500, SECOND_REQUEST, THIRD_REQUEST};
@@ -15,14 +15,16 @@ use std::cell::Cell;
 
 type CountedHost<'a> = JournalHost<16, DiskJournal<MemDisk>, Counting<'a>>;
 
-/// A host that was brought up over a journal on a disk of so many bytes, 32 for an entry, and whose
-/// issuer counts here.
-fn counted_host(alloc: Global, size: usize, asked: &Cell<u32>) -> Option<CountedHost<'_>> {
+/// A host that was brought up over a new journal with room for so many entries, and whose issuer
+/// counts here.
+fn counted_host(alloc: Global, room: usize, asked: &Cell<u32>) -> Option<CountedHost<'_>> {
     let hsm = security_module().ok()?;
     if !hsm.has_zone() {
         return None;
     }
-    let disk = MemDisk::new(alloc, size).ok()?;
+    let header = journal_header(0);
+    let size = RECORD_LENGTH * (1 + room);
+    let disk = MemDisk::with_front(alloc, header.as_slice(), size).ok()?;
     let journal = DiskJournal::new(alloc, disk).ok()?;
     let mut host = JournalHost::new(alloc, hsm, Counting { asked }, journal);
     host.restart().ok()?;
@@ -77,11 +79,11 @@ static REVERSED_FIRST: [([&[u8]; 3], u32); 2] = [
 /// The first of these groups after which the issuer was asked more often or less.
 fn asked_otherwise(
     alloc: Global,
-    size: usize,
+    room: usize,
     groups: &[([&[u8]; 3], u32)],
 ) -> Option<Option<usize>> {
     let asked = Cell::new(0);
-    let mut host = counted_host(alloc, size, &asked)?;
+    let mut host = counted_host(alloc, room, &asked)?;
     let mut group = Group::new(alloc).ok()?;
     for (place, (frames, count)) in groups.iter().enumerate() {
         host.restart().ok()?;
@@ -95,14 +97,14 @@ fn asked_otherwise(
 
 #[test]
 fn whom_the_issuer_is_asked_for_over_a_journal(rt: HostRuntime) {
-    assert_eq!(rt; asked_otherwise(rt.alloc(), 64, &PAYMENTS), Some(None));
+    assert_eq!(rt; asked_otherwise(rt.alloc(), 2, &PAYMENTS), Some(None));
 }
 
 #[test]
 fn no_reversal_asks_the_issuer(rt: HostRuntime) {
-    assert_eq!(rt; asked_otherwise(rt.alloc(), 1024, &REVERSED), Some(None));
+    assert_eq!(rt; asked_otherwise(rt.alloc(), 32, &REVERSED), Some(None));
     assert_eq!(rt;
-        asked_otherwise(rt.alloc(), 1024, &REVERSED_FIRST),
+        asked_otherwise(rt.alloc(), 32, &REVERSED_FIRST),
         Some(None)
     );
 }
@@ -111,7 +113,7 @@ fn no_reversal_asks_the_issuer(rt: HostRuntime) {
 /// answers there are.
 fn of_a_journal_that_fails(alloc: Global) -> Option<(Result<(), HostFault>, u32, usize)> {
     let asked = Cell::new(0);
-    let mut host = counted_host(alloc, 64, &asked)?;
+    let mut host = counted_host(alloc, 2, &asked)?;
     let mut group = Group::new(alloc).ok()?;
     host.arm(0);
     let frames: [&[u8]; 3] = [REQUEST_OF_500, REQUEST_OF_500, CUT];

@@ -8,7 +8,7 @@ from dataclasses import dataclass
 from enum import Enum
 from pathlib import Path
 
-# docs/FORMATS.md, "Disk of a journal".
+# docs/FORMATS.md, "Disk of a journal". In front of the records stands a header, which is as long.
 RECORD = 32
 LONGEST_GROUP = 4096
 # Where less than this part is left, that is for reversals.
@@ -107,7 +107,7 @@ async def copied(program: str, journal: Path, copy: Path) -> str:
 
 @dataclass(frozen=True)
 class Room:
-    """How many records a journal has, and how many of them are left."""
+    """How many records a journal has behind its header, and how many of them are left."""
 
     records: int = 0
     left: int = 0
@@ -122,7 +122,7 @@ def room_of(journal: Path) -> Room:
     """The room of a journal, read beside the service. None is known where it cannot be read."""
     try:
         with open(journal, "rb") as it:
-            records = os.fstat(it.fileno()).st_size // RECORD
+            records = max(0, os.fstat(it.fileno()).st_size // RECORD - 1)
             return Room(records, records - kept_in(it.fileno(), records))
     except OSError:
         return Room()
@@ -133,7 +133,7 @@ def kept_in(file: int, records: int) -> int:
     many follow. Behind the groups at most one group was begun, and then there are zeros."""
     front = used_front(file, records)
     first = max(0, front - 2 * LONGEST_GROUP)
-    last = os.pread(file, RECORD * (front - first), RECORD * first)
+    last = os.pread(file, RECORD * (front - first), RECORD * (1 + first))
     for at in range(len(last) - RECORD, -1, -RECORD):
         if last[at] == 1:
             return first + at // RECORD + 1 + int.from_bytes(last[at + 2 : at + 4], "big")
@@ -145,7 +145,7 @@ def used_front(file: int, records: int) -> int:
     low, high = 0, records
     while low < high:
         middle = (low + high) // 2
-        if any(os.pread(file, RECORD, RECORD * middle)):
+        if any(os.pread(file, RECORD, RECORD * (1 + middle))):
             low = middle + 1
         else:
             high = middle

@@ -300,6 +300,8 @@ CONSTANT = {
     "Payload": Explanation("BLOCK", "no such key", "a key of 16 or 24 bytes"),
     "log: too long": Explanation("WHAT", "a longer file", "at most 1073741824 bytes"),
     "journal: too long": Explanation("WHAT", "a longer file", "at most 1073741824 bytes"),
+    "journal: version 1, use copy-journal": Explanation(
+        "journal", "version 1", "one of version 2; make it by dukpt copy-journal OLD NEW"),
     "journal: failed": Explanation("journal", "wrong records, or a step that failed",
                                    "a journal as it was kept, on a device that works"),
     "ledger: failed": Explanation("ledger", "a step of its device failed", "a device that works",
@@ -335,6 +337,7 @@ REASONED = {
     "config: cannot read": ("CONFIG", READABLE),
     "script: cannot read": ("SCRIPT", READABLE),
     "padding: cannot read": ("/dev/urandom", "a device that can be read"),
+    "identity: cannot read": ("/dev/urandom", "a device that can be read"),
     "log: cannot open": ("log", A_LOG),
     "ledger: cannot open": ("ledger", A_LOG),
     "journal: cannot open": ("journal", A_JOURNAL),

@@ -5,6 +5,7 @@ from __future__ import annotations
 import re
 from typing import Callable, NoReturn, Optional
 
+from ..formats.checked_journal import plain_of
 from ..formats.frames import Request, Reversal, reverses
 from ..formats.images import IMAGE_1, IMAGE_2, RECORD
 from ..program import Ended
@@ -291,7 +292,17 @@ OF_A_STATE = 128
 
 
 def journal_lines(data: bytes) -> list[str]:
-    """The lines of a journal, or the first record that does not go on with those before it."""
+    """The lines of a journal of either version, or the first record behind the header that does not go
+    on with those before it."""
+    plain = plain_of(data)
+    if plain is None:
+        return record_lines(data, not data)
+    identity = data[16:24].hex().upper()
+    return ["version 2", f"identity {identity}", *record_lines(plain, False)]
+
+
+def record_lines(data: bytes, is_none: bool) -> list[str]:
+    """The lines of records, which are no journal where there is none."""
     whole = len(data) // ENTRY_BYTES
     rows: list[tuple[int, bytes]] = []
     left, first, ended, known = 0, 0, False, set[int]()
@@ -309,7 +320,7 @@ def journal_lines(data: bytes) -> list[str]:
         known.update({number, reversed_by(record)} if record[1] == 2 else {number})
         left, first = (left - 1, first) if inside else (followers, place)
         rows.append((first, record))
-    if left or not whole or len(data) % ENTRY_BYTES:
+    if left or is_none or len(data) % ENTRY_BYTES:
         stop("journal", whole, "Damaged")
     records = [record for _, record in rows]
     payments = sum(it[1] == 1 for it in records)

@@ -1,4 +1,4 @@
-"""A journal as a file: making one, reading one strictly, and what appends make of it.
+"""A journal as a file, of version 2: making one, reading one strictly, and what appends make of it.
 
 docs/FORMATS.md has the layout, under "Disk of a journal".
 """
@@ -8,8 +8,9 @@ import os
 from pathlib import Path
 from typing import Iterable, Optional, Sequence
 
-from .journal_records import (
-    OPEN, RECORD, Entry, Group, Payment, Place, Reversal, journal_of, read_entries)
+from .checked_journal import (
+    HEADER, IDENTITY, identity_of, journal_of, read_entries, with_check_sums)
+from .journal_records import OPEN, RECORD, Entry, Group, Payment, Place, Reversal
 
 # The bytes of a record behind its gate, which an append writes first.
 BODY = slice(1, RECORD)
@@ -32,8 +33,8 @@ class DamagedJournal(AssertionError):
 
 
 def make_journal(path: Path, room: int, groups: Sequence[Group] = ()) -> bytes:
-    """Makes a journal of so many records that keeps these groups, written and synced, and answers
-    its bytes."""
+    """Makes a journal with room for so many entries that keeps these groups, written and synced, and
+    answers its bytes."""
     image = journal_of(groups, room - sum(map(len, groups)))
     with open(path, "wb") as it:
         it.write(image)
@@ -81,20 +82,25 @@ def payments_in(image: bytes) -> list[Payment]:
     return payments
 
 
-def bodies_of(group: Group) -> list[bytes]:
-    """What an append writes of each record before it opens the first."""
-    return [it.record(OPEN, 0 if at else len(group) - 1)[BODY] for at, it in enumerate(group)]
+def bodies_of(group: Group, place: int, identity: int = IDENTITY) -> list[bytes]:
+    """What an append behind so many entries writes of each record before it opens the first."""
+    records = [it.record(OPEN, 0 if at else len(group) - 1) for at, it in enumerate(group)]
+    written = with_check_sums(b"".join(records), identity, 1 + place)
+    return [written[at : at + RECORD][BODY] for at in range(0, len(written), RECORD)]
 
 
 def appended(image: bytes, groups: Sequence[Group], count: Optional[int] = None) -> bytes:
     """A journal, which keeps so many entries, if that is known, to which groups were appended. No
     other byte of it is changed: neither the gate of a record that follows nor what stands behind
     them."""
-    found = bytearray(image)
-    at = RECORD * (len(entries_in(image)) if count is None else count)
+    found, identity = bytearray(image), identity_of(image)
+    assert identity is not None
+    place = len(entries_in(image)) if count is None else count
     for group in groups:
+        at = HEADER + RECORD * place
         found[at] = OPEN
-        for body in bodies_of(group):
+        for body in bodies_of(group, place, identity):
             found[at + 1 : at + RECORD] = body
             at += RECORD
+        place += len(group)
     return bytes(found)

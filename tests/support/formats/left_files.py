@@ -5,17 +5,23 @@ from __future__ import annotations
 from dataclasses import dataclass
 from typing import Callable, Optional
 
+from .checked_journal import identity_of
+from .journal_records import BOTH_KINDS, wrong_bytes
+
 OPEN = 1
 
 
 @dataclass(frozen=True)
 class Records:
-    """A format of records: their bytes, how many a stop leaves in part, and in which bytes an open one
-    says how many follow."""
+    """A format of records: their bytes, how many a stop leaves in part, in which bytes an open one says
+    how many follow, and how many in front are headers, each of which is a group by itself."""
 
     size: int
     most: int
     followers: slice
+    headers: int = 0
+    # Whether the first record is such as a file begins with.
+    is_front: Callable[[bytes], bool] = lambda first: True
 
     def of(self, image: bytes) -> list[bytes]:
         return [image[at : at + self.size] for at in range(0, len(image), self.size)]
@@ -25,8 +31,12 @@ class Records:
         opens = [at for at, it in enumerate(self.of(image)) if it[0] == OPEN]
         if not opens:
             return 0
-        last = image[self.size * opens[-1] :][: self.size]
-        return opens[-1] + 1 + int.from_bytes(last[self.followers], "big")
+        return opens[-1] + 1 + self.following(opens[-1], image[self.size * opens[-1] :][: self.size])
+
+    def following(self, place: int, record: bytes) -> int:
+        """How many follow an open record at a place."""
+        return 0 if place < self.headers else int.from_bytes(record[self.followers], "big")
+
 
     def foreign(self, image: bytes) -> Optional[int]:
         """The last record that is not zero, where these whole records are such as no log or journal
@@ -39,11 +49,23 @@ class Records:
         return None if is_left else max(at for at, it in enumerate(records) if any(it))
 
     def is_left(self, image: bytes) -> bool:
-        return bool(image) and len(image) % self.size == 0 and self.foreign(image) is None
+        return (bool(image) and len(image) % self.size == 0 and self.is_front(image[: self.size])
+                and self.foreign(image) is None)
 
 
 LOG = Records(16, 1, slice(0, 0))
-JOURNAL = Records(32, 4096, slice(2, 4))
+
+def is_closed_or_whole(record: bytes) -> bool:
+    return record[0] != OPEN or not wrong_bytes(record, False, BOTH_KINDS)
+
+
+def is_header(record: bytes) -> bool:
+    return identity_of(record) is not None
+
+
+# A journal of version 1, and one of version 2.
+OLD_JOURNAL = Records(32, 4096, slice(2, 4), is_front=is_closed_or_whole)
+JOURNAL = Records(32, 4096, slice(2, 4), headers=1, is_front=is_header)
 
 # A start looks through so many bytes at once, from the end on.
 PIECE = 1 << 16
@@ -90,14 +112,16 @@ class Looks:
 
 
 def look(form: Records, size: int, take: Take) -> None:
-    """Reads a file of whole records: for the last record that is used; before it for the last that is
-    open, and what that says to follow; and for the last with a gate."""
+    """Reads a file of whole records: for its header; for the last record that is used; before it for
+    the last that is open, and what that says to follow; and for the last with a gate."""
     looks = Looks(form, size, take)
+    if form.headers:
+        looks.read(0, form.size)
     used = looks.last(size // form.size, 0)
     if used is None:
         return
     last = looks.last(used + 1, 1)
-    if last is not None and form.followers.stop:
+    if last is not None and last >= form.headers and form.followers.stop:
         looks.read(form.size * last + form.followers.start, 2)
     looks.last(used + 1, 2)
 

@@ -7,6 +7,7 @@ from pathlib import Path
 from typing import Iterable, Optional, Sequence
 
 from ..formats import journal_file
+from ..formats.checked_journal import room_in
 from ..formats.journal_file import appended, entries_in, groups_in, records_for
 from ..formats.journal_records import RECORD, Entry, Group
 from ..models.model_journal import (
@@ -20,6 +21,7 @@ ON_JOURNAL = ("serve", "bank.toml", "--journal", "journal")
 
 CANNOT_OPEN = "journal: cannot open"
 JOURNAL_FAILED = "journal: failed"
+OLD_VERSION = "journal: version 1, use copy-journal"
 
 
 def alone(given: Iterable[Entry]) -> list[list[Entry]]:
@@ -35,7 +37,7 @@ class JournalCase(ServiceCase):
         return self.home / "journal"
 
     def make_journal(self, room: int, groups: Sequence[Group] = ()) -> bytes:
-        """Makes the file `journal` anew, of so many records, and answers its bytes."""
+        """Makes the file `journal` anew, with room for so many entries, and answers its bytes."""
         return journal_file.make_journal(self.journal, room, groups)
 
     def make_room(self, payments: int) -> bytes:
@@ -62,7 +64,7 @@ class JournalCase(ServiceCase):
         reads make of them, and ends with this fault, if one is named. The requests come in these
         pieces, or at once with these bytes behind them."""
         before = self.journal.read_bytes()
-        found = judged(requests, entries_in(before), len(before) // RECORD)
+        found = judged(requests, entries_in(before), room_in(before))
         ended = self.run_service(words, [stream_of(requests) + behind] if pieces is None else pieces,
                                  how)
         self.assert_output(ended, answers_of(found), fault, what)
@@ -72,7 +74,7 @@ class JournalCase(ServiceCase):
     def check_packets(self, packets: Sequence[Sequence[Exchange]], what: str = "") -> None:
         """The same where each packet of requests is one read, so that each byte is known."""
         before, requests = self.journal.read_bytes(), [it for packet in packets for it in packet]
-        found = judged(requests, entries_in(before), len(before) // RECORD)
+        found = judged(requests, entries_in(before), room_in(before))
         ended = self.run_service(ON_JOURNAL, [stream_of(it) for it in packets], PACKETS)
         self.assert_output(ended, answers_of(found), "", what)
         reads = [len(stream_of([it for packet in packets[: at + 1] for it in packet]))
@@ -93,7 +95,7 @@ class JournalCase(ServiceCase):
         these may be known."""
         before, stream = self.journal.read_bytes(), stream_of(requests) + behind
         kept = entries_in(before) if kept is None else kept
-        found = judged(requests, kept, len(before) // RECORD)
+        found = judged(requests, kept, room_in(before))
         ended = self.serve_file(stream, words)
         self.assert_output(ended, answers_of(found), fault, what)
         groups = groups_by_reads(requests, found, reads_of_file(len(stream)))

@@ -3,6 +3,7 @@ from __future__ import annotations
 
 from typing import Sequence
 
+from ..formats.checked_journal import HEADER, identity_of, room_in, with_check_sums
 from ..formats.journal_file import appended, entries_in, groups_in
 from ..formats.journal_records import RECORD, Entry, Payment
 from ..models.model_journal import MOST_FRAMES, added_by, answers_of, judged, wrong_group
@@ -36,7 +37,7 @@ class KilledRuns(JournalCase):
         and those of the first groups, all whose answers were read among them; and of one further
         group perhaps the bodies, or the first of them."""
         after = self.journal.read_bytes()
-        room = len(before) // RECORD
+        room = room_in(before)
         found = judged(order, entries_in(before), room)
         self.assertTrue(answers_of(found).startswith(output), "an answer is not that to its request")
         groups = groups_in(after)[len(groups_in(before)) :]
@@ -58,14 +59,18 @@ class KilledRuns(JournalCase):
         answers whether there are any."""
         if wanted == after:
             return False
-        first = RECORD * len(entries_in(after))
+        place = len(entries_in(after))
+        first = HEADER + RECORD * place
         rest, before = records_of(after[first:]), records_of(wanted[first:])
         count = 1 + max(at for at, it in enumerate(rest) if it != before[at])
         followers = int.from_bytes(rest[0][2:4], "big")
         self.assertIn(followers + 1, range(count, MOST_FRAMES + 1), "bodies, and their number")
         self.assertLessEqual(count, len(more), "more bodies than there are entries")
+        identity = identity_of(after)
+        assert identity is not None
         for at, it in enumerate(more[:count]):
-            self.assertEqual(rest[at], it.record(0, 0 if at else followers),
+            plain = it.record(0, 0 if at else followers)
+            self.assertEqual(rest[at], with_check_sums(plain, identity, 1 + place + at),
                              f"body {at} of a group that is not open")
         return True
 

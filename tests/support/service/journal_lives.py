@@ -10,8 +10,9 @@ import signal
 from pathlib import Path
 from typing import Sequence
 
+from ..formats.checked_journal import blank
 from ..formats.journal_file import DamagedJournal, payments_in
-from ..formats.journal_records import RECORD, Payment
+from ..formats.journal_records import Payment
 from ..formats.left_files import JOURNAL
 from ..models.model_journal import added_by, answers_of, judged, payments_of_all
 from ..program import Ended, Program
@@ -116,7 +117,7 @@ class JournalLives:
         first = self.chance.randrange(ALL - PAYMENTS + 1)
         self.items = list(payments(ALL)[first : first + PAYMENTS])
         self.history, self.histories = History(), self.histories + 1
-        self.image, self.is_unsure = bytes(RECORD * ROOM), False
+        self.image, self.is_unsure = blank(ROOM), False
         self.file.make(self.image)
 
     def end_history(self) -> None:

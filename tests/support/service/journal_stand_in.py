@@ -12,6 +12,7 @@ import sys
 from enum import Enum
 from typing import Optional
 
+from ..formats.checked_journal import HEADER, identity_of, plain_of, with_check_sums
 from ..formats.left_files import JOURNAL, look
 from .stand_in import Table, read_table
 
@@ -64,8 +65,8 @@ class Journal:
             os.write(2, b"journal: cannot open\n")
             sys.exit(1)
         self.size = os.fstat(self.file).st_size
-        self.room = self.size // RECORD
-        if self.room and self.size % RECORD == 0:
+        self.room = self.size // RECORD - 1
+        if self.size and self.size % RECORD == 0:
             look(JOURNAL, self.size, self.read)
         self.sync()
         self.payments: dict[bytes, tuple[bytes, int]] = {}
@@ -82,12 +83,15 @@ class Journal:
         return data
 
     def read_groups(self) -> None:
-        held = b""
+        held = self.read(0, min(HEADER, self.size))
         while len(held) < self.size:
             held += self.read(len(held), min(AHEAD, self.size - len(held)))
-        records = [held[at : at + RECORD] for at in range(0, len(held), RECORD)]
-        if self.way is not Way.LOOKS_AT_NOTHING and (self.size % RECORD or not self.size):
+        self.identity, plain = identity_of(held) or 0, plain_of(held)
+        if self.way is Way.LOOKS_AT_NOTHING and plain is None:
+            plain = b""
+        if plain is None or self.way is not Way.LOOKS_AT_NOTHING and self.size % RECORD:
             raise OSError("no journal")
+        records = [plain[at : at + RECORD] for at in range(0, len(plain), RECORD)]
         # What a wrong way left is to be found by others.
         if self.way is Way.RIGHT and not JOURNAL.is_left(held):
             raise OSError("no journal")
@@ -127,8 +131,8 @@ class Journal:
             for one in group:
                 self.append([one])
             return
-        first = RECORD * self.count
-        bodies = [one[:1] + (0 if at else len(group) - 1).to_bytes(2, "big") + one[3:]
+        first = HEADER + RECORD * self.count
+        bodies = [self.checked(one[:1] + (0 if at else len(group) - 1).to_bytes(2, "big") + one[3:], at)
                   for at, one in enumerate(group)]
         self.count += len(group)
         if self.way is Way.IN_MEMORY:
@@ -152,6 +156,10 @@ class Journal:
                 self.put(first + RECORD * at, b"\x01")
         if self.way is not Way.GATE_UNSYNCED:
             self.sync()
+
+    def checked(self, body: bytes, behind: int) -> bytes:
+        """A body with its check sum, so many records behind those that are kept."""
+        return with_check_sums(b"\x01" + body, self.identity, 1 + self.count + behind)[1:]
 
     def put(self, at: int, data: bytes) -> None:
         if os.fstat(self.file).st_size != self.size:

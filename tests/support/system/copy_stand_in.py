@@ -11,6 +11,8 @@ import sys
 from enum import Enum
 from typing import Iterator, Optional
 
+from ..formats.checked_journal import HEADER, checked, identity_of, plain_of
+
 RECORD, PIECE = 32, 1 << 16
 
 
@@ -82,8 +84,12 @@ class Copy:
             fcntl.flock(self.old, fcntl.LOCK_EX | fcntl.LOCK_NB)
         self.file: Optional[int] = self.make() if way is CopyWay.MADE_FIRST else None
         image = b"".join(self.read())
-        self.kept = kept_bytes(image)
-        self.image = image[: self.kept].ljust(os.fstat(self.old).st_size, b"\x00")
+        identity, plain = identity_of(image), plain_of(image)
+        assert identity is not None and plain is not None
+        kept = kept_bytes(plain)
+        self.kept = HEADER + kept
+        size = os.fstat(self.old).st_size - HEADER
+        self.image = checked(plain[:kept].ljust(size, b"\x00"), identity ^ 1)
         if way is CopyWay.OLD_WRITTEN:
             os.pwrite(self.old, image[:1], 0)
         if self.file is None:
@@ -137,9 +143,7 @@ class Copy:
             write(self.file, self.image, 0, FIRST_OF_THE_REST[way])
         elif way in (CopyWay.KIND_LAST, CopyWay.GATE_AGAIN, CopyWay.MARK_NOT_SYNCED,
                      CopyWay.SIZE_NOT_SYNCED):
-            # Of a journal that keeps nothing the gate is another than at first.
-            at = 1 if self.kept else 0
-            write(self.file, self.image, at, at + 1)
+            write(self.file, self.image, 1, 2)
         elif way not in (CopyWay.FIRST_TO_LAST, CopyWay.NO_ZEROS, *FIRST_OF_THE_REST):
             write(self.file, self.image, size - 1, size)
 

@@ -37,14 +37,16 @@ pub(crate) fn usage<'a>() -> Usage<'a>
 
 /// At the end of its help.
 const HELP: &str = "\
-OLD is checked first, as a host checks its journal when it starts. NEW has its size, the payments that it
-keeps, in the same places, and zeros behind them. NEW and its folder are synced.
+OLD is checked first, as a host checks its journal when it starts. It may be of version 1. NEW is of version
+2, with as much room, the payments that OLD keeps, in the same places, and zeros behind them. NEW and its
+folder are synced.
 
 Example:
   $ dukpt new-journal payments.journal 1000
   $ dukpt copy-journal payments.journal copy.journal
 
 Faults, on standard error with status 1, the first alone; --explain says more:
+  identity: cannot read  The system's random device gives nothing
   journal: cannot open   OLD is missing, cannot be opened, or is in use by a service
   journal: failed        OLD is damaged, has a number twice, or a device step of it failed
   journal: cannot make   NEW is there, cannot be made, written or synced, or its folder cannot be synced

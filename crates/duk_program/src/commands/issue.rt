@@ -9,13 +9,15 @@ ghost use Rattle.duk_commands.specs.Answer.{streams};
 ghost use Rattle.duk_io.specs.Sink.{IsHandedOn};
 ghost use Rattle.duk_commands.specs.Issue.{ends};
 ghost use Rattle.duk_commands.specs.Order.{IsOrderOf, IsOrderRefused};
+ghost use Rattle.duk_program.specs.Random.{random_device};
 ghost use Rattle.duk_service.specs.Files.{IsFrontRead};
-ghost use Rattle.duk_program.specs.IssueFiles.{HasIssuedFiles, HasMadeLines, HasNotIssuedFiles, HasNotMadeLines, IsIssuedOver, IsIssuedTo, IsIssuedToFile, IsLedgerOpened, IsLedgerUnopened, IsNotIssuedOver, IsNotIssuedTo, IsNotIssuedToFile, IsNoted, IsPaddingRefused, if_issued_in, issue_files_known, issuing, order_in, random_device};
+ghost use Rattle.duk_program.specs.IssueFiles.{HasIssuedFiles, HasMadeLines, HasNotIssuedFiles, HasNotMadeLines, IsIssuedOver, IsIssuedTo, IsIssuedToFile, IsLedgerOpened, IsLedgerUnopened, IsNotIssuedOver, IsNotIssuedTo, IsNotIssuedToFile, IsNoted, IsPaddingRefused, if_issued_in, issue_files_known, issuing, order_in};
 ghost use Rattle.duk_program.specs.inner.IssueFiles.{task_of};
 
 use crate::command_line::arguments::Form::{Plain, Reference};
 use crate::command_line::arguments::{Argument, BDK, Usage, Way};
 use crate::command_line::{CommandName, Request};
+use crate::random::RANDOM;
 use crate::shape::{Answers, Shape};
 use duk_commands::hand_on;
 use duk_commands::issue::{
@@ -83,9 +85,6 @@ pub(crate) fn usage<'a>() -> Usage<'a>
         ],
     }
 }
-
-/// The system's random device.
-const RANDOM: &str = "/dev/urandom";
 
 /// What becomes of numbers that are issued already.
 #[derive(Clone, Copy, Debug, PartialEq, Eq)]
@@ -209,7 +208,7 @@ fn open_ledger<S: LogFiles>(files: &S, ledger: &str) -> Result<S::Disk, IssueFau
         Ok(disk) => Ok(disk),
         Err(OpenFault::Unopened) => Err(IssueFault::LedgerUnopened),
         Err(OpenFault::Failed) => Err(IssueFault::LedgerFailed),
-        Err(OpenFault::Foreign) => Err(IssueFault::LedgerDamaged),
+        Err(OpenFault::Foreign | OpenFault::OldVersion) => Err(IssueFault::LedgerDamaged),
     }
 }
 

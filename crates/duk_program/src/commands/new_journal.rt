@@ -29,7 +29,7 @@ pub(crate) fn usage<'a>() -> Usage<'a>
             Argument::Needed(
                 Reference,
                 "RECORDS",
-                "How many records it has, 1 to 1000000000; the last sixteenth is for reversals",
+                "For how many records it has room, 1 to 1000000000; the last sixteenth is for reversals",
             ),
         ],
     }
@@ -38,14 +38,16 @@ pub(crate) fn usage<'a>() -> Usage<'a>
 /// At the end of its help.
 const HELP: &str = "\
 A journal takes a record of 32 bytes for each payment and each reversal; in the last sixteenth of them no
-payment is kept, so that there is room to reverse. They are zeros at first, and all of them are written,
-so that a device without room for them shows now and not at a payment. FILE and its folder are synced.
+payment is kept, so that there is room to reverse. They are zeros at first, behind a header, and all of them
+are written, so that a device without room for them shows now and not at a payment. FILE and its folder are
+synced.
 
 Example:
   $ dukpt new-journal payments.journal 1000
 
 Faults, on standard error with status 1, the first alone; --explain says more:
   NAME: ..               The argument NAME as @FILE or @-: cannot read, too long, not UTF-8
+  identity: cannot read  The system's random device gives nothing
   records refused        RECORDS is no decimal number of 1 to 1000000000
   journal: cannot make   FILE is there, cannot be made, written or synced, or its folder cannot be synced
   out of memory          Memory was refused";

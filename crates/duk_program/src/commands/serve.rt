@@ -148,6 +148,7 @@ Faults, on standard error with status 1, the first alone; --explain says more:
   log: failed                   FILE is damaged or no log, or a device step failed
   journal: cannot open          FILE is missing, cannot be opened, or is in use by another service
   journal: failed               FILE is damaged or no journal, or a device step failed
+  journal: version 1, ..        FILE is a journal of version 1: copy it with copy-journal, and serve that
   serve: read failed            Standard input cannot be read, or took 1000000 reads without --journal
   serve: input ends in a frame  Standard input ended inside a frame
   serve: frame too long         A length above 62 where a frame begins

@@ -11,6 +11,7 @@ use crate::explaining::seen::{Found, Seen, words};
 use crate::explaining::shown::{block_shown, frame_shown, image_shown};
 use crate::explaining::texts::{About, Kind};
 use crate::fault::Fault;
+use crate::random::{IdentityFault, RANDOM};
 use crate::secrets::{SecretFault, Unread};
 use duk_block::BlockFault;
 use duk_commands::issue::IssueFault;
@@ -42,6 +43,7 @@ pub(crate) fn of_fault(about: About<'_, '_>, why: &Fault) -> Seen {
         Fault::ConfigUnread => unread("CONFIG"),
         Fault::Script(why) => of_script(why),
         Fault::Serve(why) => of_serve(*why),
+        Fault::Identity(IdentityFault::Unread) => random_device(),
         Fault::NewFile(_, NewFileFault::RecordsRefused) => refused(about, "RECORDS"),
         Fault::NewFile(format, NewFileFault::Unmade) => unmade("FILE", name_of(*format)),
         Fault::CopyJournal(CopyJournalFault::Unopened) => {
@@ -49,7 +51,8 @@ pub(crate) fn of_fault(about: About<'_, '_>, why: &Fault) -> Seen {
         }
         Fault::CopyJournal(CopyJournalFault::Failed) => failed("OLD", RecordFormat::Journal),
         Fault::CopyJournal(CopyJournalFault::Unmade) => unmade("NEW", "journal"),
-        Fault::NewFile(_, NewFileFault::OutOfMemory)
+        Fault::Identity(IdentityFault::OutOfMemory)
+        | Fault::NewFile(_, NewFileFault::OutOfMemory)
         | Fault::CopyJournal(CopyJournalFault::OutOfMemory) => memory(),
     }
 }
@@ -220,6 +223,11 @@ fn of_lmk(about: About<'_, '_>, why: ComponentFault) -> Seen {
     }
 }
 
+/// The system's random device, which gives nothing.
+fn random_device() -> Seen {
+    Seen::new(RANDOM, Found::Unread(Reason::Other)).wanted("a device that can be read")
+}
+
 /// Keys that are issued.
 fn of_issue(about: About<'_, '_>, why: IssueFault) -> Seen {
     match why {
@@ -231,11 +239,7 @@ fn of_issue(about: About<'_, '_>, why: IssueFault) -> Seen {
         IssueFault::KcvDiffers => words("BDK", "another check value").wanted(
             "a key with the check value KCV; kcv prints that of a key",
         ),
-        IssueFault::PaddingUnread => {
-            Seen::new("/dev/urandom", Found::Unread(Reason::Other)).wanted(
-                "a device that can be read",
-            )
-        }
+        IssueFault::PaddingUnread => random_device(),
         IssueFault::LedgerUnopened => unopened("ledger", "ledger", RecordFormat::Log),
         IssueFault::OutUnmade => unmade("out", "out"),
         IssueFault::LedgerFailed => ledger(Found::Words("a step of its device failed")).wanted(

@@ -60,6 +60,11 @@ pub(crate) fn of_serve(why: ServeFault) -> Seen {
         ServeFault::NotOpened(format, OpenFault::Unopened) => {
             unopened(name_of(format), name_of(format), format)
         }
+        ServeFault::NotOpened(format, OpenFault::OldVersion) => {
+            under(name_of(format), name_of(format), Found::Words("version 1")).wanted(
+                "one of version 2; make it by dukpt copy-journal OLD NEW",
+            )
+        }
         ServeFault::NotOpened(format, OpenFault::Failed | OpenFault::Foreign)
         | ServeFault::Host(format, HostFault::Store(_) | HostFault::Stopped)
         | ServeFault::StoreAndAnswers(format) => failed(name_of(format), format),

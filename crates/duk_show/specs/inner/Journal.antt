@@ -1,24 +1,27 @@
 -- What only private functions and proofs say beside `Journal.antt`: this project's own.
 use Rattle.std.specs.Prelude.{◌≡◌, ◌⊎◌, ◌↔◌, ◌<◌, ◌≤◌, ◌+◌, ◌/◌, ℕ, List, [], ◌∷◌, ◌++◌, ⊤, length, Contains}
 use Rattle.duk_host.specs.Used.{IsUsed}
-use Rattle.duk_journal.specs.Groups.{Entries, HasContents}
+use Rattle.duk_journal.specs.Groups.{Entries}
 use Rattle.duk_journal.specs.RecordFormat.{IsOpen, record_at, record_length}
 use Rattle.duk_journal.specs.Standing.{UseNewNumbers, used_by}
 use Rattle.duk_journal.specs.declared.entry.Entry.{Entry}
 use Rattle.duk_store.specs.Log.{Numbers}
 use Rattle.duk_tree.specs.Serial.{Serial}
 use Rattle.duk_show.specs.Journal.{BeginsJournal, GoesOn}
+use Rattle.duk_show.specs.Stored.{HasContents, stored_record}
+use Rattle.duk_show.specs.declared.stored.Stored.{Stored}
 use Rattle.duk_show.specs.declared.fault.ShowFault.{ShowFault}
 use Rattle.duk_show.specs.declared.fault.ShowFault.TheVariants.{JournalRefused, OutOfMemory}
 
 -- a record stands where so many of a group are to come: the first of a group, or one inside it
-pub record IsNextIn (left followers : ℕ) (entry : Entry) (record_bytes : List ℕ) : Type 0 where
-  pub contents : HasContents followers entry record_bytes
+pub record IsNextIn (stored : Stored) (place left followers : ℕ) (entry : Entry)
+    (record_bytes : List ℕ) : Type 0 where
+  pub contents : HasContents stored place followers entry record_bytes
   pub inside : 1 ≤ left → (¬ IsOpen record_bytes) × (followers ≡ 0)
 
-abbrev pub IsNoneNext : ℕ → List ℕ → Type 0
-IsNoneNext left record_bytes =
-    (followers : ℕ) (entry : Entry) → ¬ IsNextIn left followers entry record_bytes
+abbrev pub IsNoneNext : Stored → ℕ → ℕ → List ℕ → Type 0
+IsNoneNext stored place left record_bytes =
+    (followers : ℕ) (entry : Entry) → ¬ IsNextIn stored place left followers entry record_bytes
 
 -- how many of a group are to come after a record
 pub record IsLeftAfter (left followers more : ℕ) : Type 0 where
@@ -38,27 +41,42 @@ IsNotNew entries entry OutOfMemory = ⊤
 IsNotNew entries entry why = ⊥
 
 -- a record with a new entry is taken
-pub record IsRecordTaken
+pub record IsRecordTaken (stored : Stored)
     (left : ℕ) (record_bytes : List ℕ) (old new : Entries) (more : ℕ) : Type 0 where
   pub entry : Entry
   pub followers : ℕ
-  pub next : IsNextIn left followers entry record_bytes
+  pub next : IsNextIn stored (length old) left followers entry record_bytes
   pub left_after : IsLeftAfter left followers more
   pub taken : IsNewEntry old entry new
 
 -- it does not go on with the entries before it
-abbrev pub IsRecordNotTaken : ℕ → List ℕ → Entries → ShowFault → Type 0
-IsRecordNotTaken left record_bytes entries (JournalRefused place) =
-    (place ≡ length entries) × ¬ GoesOn (length entries) left entries record_bytes
-IsRecordNotTaken left record_bytes entries OutOfMemory = ⊤
-IsRecordNotTaken left record_bytes entries why = ⊥
+abbrev pub IsRecordNotTaken : Stored → ℕ → List ℕ → Entries → ShowFault → Type 0
+IsRecordNotTaken stored left record_bytes entries (JournalRefused place) =
+    (place ≡ length entries) × ¬ GoesOn stored (length entries) left entries record_bytes
+IsRecordNotTaken stored left record_bytes entries OutOfMemory = ⊤
+IsRecordNotTaken stored left record_bytes entries why = ⊥
 
 -- these are the entries of all groups: behind them the bytes end, or a record is closed
-pub record AreGroups (bytes : List ℕ) (entries : Entries) : Type 0 where
-  pub begins : BeginsJournal (length entries) 0 entries bytes
-  pub within : length entries ≤ length bytes / record_length
-  pub ends : length entries < length bytes / record_length
-      → ¬ IsOpen (record_at (length entries) bytes)
+pub record AreGroups (stored : Stored) (entries : Entries) : Type 0 where
+  pub begins : BeginsJournal (length entries) 0 entries stored
+  pub within : length entries ≤ length stored.records.now / record_length
+  pub ends : length entries < length stored.records.now / record_length
+      → ¬ IsOpen (stored_record (length entries) stored)
+
+-- why they are not found: the record at a place does not go on with what is before it, or is missing
+-- inside a group
+pub record AreCutAt (stored : Stored) (place : ℕ) : Type 0 where
+  pub left : ℕ
+  pub entries : Entries
+  pub begins : BeginsJournal place left entries stored
+  pub wrong : (place ≡ length stored.records.now / record_length) × (1 ≤ left)
+      ⊎ (place < length stored.records.now / record_length)
+      × ¬ GoesOn stored place left entries (stored_record place stored)
+
+abbrev pub AreNoGroups : Stored → ShowFault → Type 0
+AreNoGroups stored (JournalRefused place) = AreCutAt stored place
+AreNoGroups stored OutOfMemory = ⊤
+AreNoGroups stored why = ⊥
 
 -- the records from a place to another are closed
 abbrev pub AreClosedBetween : ℕ → ℕ → List ℕ → Type 0

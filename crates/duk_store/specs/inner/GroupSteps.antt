@@ -37,24 +37,24 @@ MayLeaveChanged change old new =
     old.honest → (bytes : List ℕ) → new.may_leave bytes → change old.reads bytes
 
 -- contents that say this are written into a record
-pub record IsRecordWritten {I : Type 0} (format : FormatMeaning I) (place followers : ℕ) (item : I)
+pub record IsRecordWritten {I : Type 0} (format : FormatMeaning I) (identity place followers : ℕ) (item : I)
     (before after : List ℕ) : Type 0 where
   pub contents : List ℕ
-  pub says : format.says place followers item contents
+  pub says : format.says identity place followers item contents
   pub is : after ≡ written before (format.record_length * place + 1) contents
 
 -- the contents of the first records of a group are written, and not synced
-pub record AreContentsWritten {I : Type 0} (format : FormatMeaning I) (count : ℕ) (group : List I)
+pub record AreContentsWritten {I : Type 0} (format : FormatMeaning I) (identity count : ℕ) (group : List I)
     (place : ℕ) (before after : List ℕ) : Type 0 where
   pub leaves : LeavesGates format.record_length place (length group) before after
-  pub contents : AreWritten format count group place after
+  pub contents : AreWritten format identity count group place after
 
-pub record WritesContents {I : Type 0} (format : FormatMeaning I) (count : ℕ) (group : List I)
+pub record WritesContents {I : Type 0} (format : FormatMeaning I) (identity count : ℕ) (group : List I)
     (place : ℕ) (old new : DiskState) : Type 0 where
   pub nature : PreservesDisk old new
   pub no_failure : new.failures ≡ old.failures
   pub torn : MayLeaveChanged (LeavesGates format.record_length place (length group)) old new
-  pub reads : old.honest → AreContentsWritten format count group place old.reads new.reads
+  pub reads : old.honest → AreContentsWritten format identity count group place old.reads new.reads
 
 -- a device call failed in it
 pub record ContentsFailed
@@ -64,10 +64,10 @@ pub record ContentsFailed
   pub torn : MayLeaveChanged (LeavesGates long place count) old new
 
 -- a group is written and open: nothing else is changed
-pub record IsGroupWritten {I : Type 0} (format : FormatMeaning I) (group : List I) (place : ℕ)
+pub record IsGroupWritten {I : Type 0} (format : FormatMeaning I) (identity : ℕ) (group : List I) (place : ℕ)
     (before after : List ℕ) : Type 0 where
   pub is_open : IsOpen (record_at format.record_length place after)
-  pub contents : AreWritten format (length group) group place after
+  pub contents : AreWritten format identity (length group) group place after
   pub gates : (other : ℕ) → other ≢ place
       → gate_of (record_at format.record_length other after)
       ≡ gate_of (record_at format.record_length other before)
@@ -76,38 +76,38 @@ pub record IsGroupWritten {I : Type 0} (format : FormatMeaning I) (group : List 
 
 -- it is written in part: all gates are as they were, or all contents are written, and any byte
 -- stands in the gate of the first record
-pub record IsGroupTorn {I : Type 0} (format : FormatMeaning I) (group : List I) (place : ℕ)
+pub record IsGroupTorn {I : Type 0} (format : FormatMeaning I) (identity : ℕ) (group : List I) (place : ℕ)
     (before after : List ℕ) : Type 0 where
   pub torn : (gate_of (record_at format.record_length place after)
       ≡ gate_of (record_at format.record_length place before))
-      ⊎ AreWritten format (length group) group place after
+      ⊎ AreWritten format identity (length group) group place after
   pub gates : (other : ℕ) → other ≢ place
       → gate_of (record_at format.record_length other after)
       ≡ gate_of (record_at format.record_length other before)
   pub beside : (other : ℕ) → (other < place) ⊎ (place + length group ≤ other)
       → record_at format.record_length other after ≡ record_at format.record_length other before
 
-pub record WritesGroup {I : Type 0} (format : FormatMeaning I) (group : List I) (place : ℕ)
+pub record WritesGroup {I : Type 0} (format : FormatMeaning I) (identity : ℕ) (group : List I) (place : ℕ)
     (old new : DiskState) : Type 0 where
   pub nature : PreservesDisk old new
   pub no_failure : new.failures ≡ old.failures
   pub leaves : old.honest → LeavesReads new
-  pub written : old.honest → IsGroupWritten format group place old.reads new.reads
+  pub written : old.honest → IsGroupWritten format identity group place old.reads new.reads
 
-pub record GroupFailed {I : Type 0} (format : FormatMeaning I) (group : List I) (place : ℕ)
+pub record GroupFailed {I : Type 0} (format : FormatMeaning I) (identity : ℕ) (group : List I) (place : ℕ)
     (old new : DiskState) (fault : StoreFault) : Type 0 where
   pub nature : PreservesDisk old new
   pub failed : HasFailed old new fault
-  pub torn : MayLeaveChanged (IsGroupTorn format group place) old new
+  pub torn : MayLeaveChanged (IsGroupTorn format identity group place) old new
 
 -- the contents of a group are written and synced
-pub record SyncsContents {I : Type 0} (format : FormatMeaning I) (group : List I) (place : ℕ)
+pub record SyncsContents {I : Type 0} (format : FormatMeaning I) (identity : ℕ) (group : List I) (place : ℕ)
     (old new : DiskState) : Type 0 where
   pub nature : PreservesDisk old new
   pub no_failure : new.failures ≡ old.failures
   pub leaves : old.honest → LeavesReads new
   pub written : old.honest
-      → AreContentsWritten format (length group) group place old.reads new.reads
+      → AreContentsWritten format identity (length group) group place old.reads new.reads
 
 -- the gate of a record is opened and synced
 pub record OpensGate (long place : ℕ) (old new : DiskState) : Type 0 where

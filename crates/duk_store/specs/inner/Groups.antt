@@ -14,10 +14,11 @@ abbrev pub followers_at : ℕ → ℕ → ℕ
 followers_at zero count = count - 1
 followers_at (suc place) count = 0
 
--- the first items of a group stand in the contents of the records from a place on
+-- on the disk of an identity, the first items of a group stand in the contents of the records from a
+-- place on
 abbrev pub AreWritten :
-    {I : Type 0} → FormatMeaning I → ℕ → List I → ℕ → List ℕ → Type 0
-AreWritten {I} format count group place bytes =
+    {I : Type 0} → FormatMeaning I → ℕ → ℕ → List I → ℕ → List ℕ → Type 0
+AreWritten {I} format identity count group place bytes =
     (index : ℕ) (item : I) → index < count → slice_get group index ≡ Some item
-    → HasContents format (place + index) (followers_at index (length group)) item
+    → HasContents format identity (place + index) (followers_at index (length group)) item
     (record_at format.record_length (place + index) bytes)

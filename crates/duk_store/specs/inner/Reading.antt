@@ -4,7 +4,7 @@ use Rattle.duk_store.specs.Disk.{range_of}
 use Rattle.duk_store.specs.declared.fault.StoreFault.{StoreFault}
 use Rattle.duk_store.specs.declared.fault.StoreFault.TheVariants.{Damaged}
 use Rattle.duk_store.specs.Format.{FormatMeaning}
-use Rattle.duk_store.specs.Records.{AreClosedFrom, AreKeptFrom, AreListed, HasContents, IsOpen, record_at}
+use Rattle.duk_store.specs.Records.{AreClosedFrom, AreKeptFrom, AreListed, HasContents, IsOpen, identity_in, record_at}
 use Rattle.duk_store.specs.Visitor.{TakesAll}
 use Rattle.duk_store.specs.declared.reading.Reading.{Reading}
 use Rattle.duk_store.specs.declared.reading.Reading.TheVariants.{Behind, Groups}
@@ -13,9 +13,9 @@ use Rattle.duk_store.specs.declared.reading.Reading.TheVariants.{Behind, Groups}
 abbrev pub ListsNone : {I : Type 0} → FormatMeaning I → List ℕ → Type 0
 ListsNone {I} format bytes = (items : List I) → ¬ AreListed format items bytes
 
-abbrev pub HasNoContents : {I : Type 0} → FormatMeaning I → ℕ → List ℕ → Type 0
-HasNoContents {I} format place record_bytes =
-    (followers : ℕ) (item : I) → ¬ HasContents format place followers item record_bytes
+abbrev pub HasNoContents : {I : Type 0} → FormatMeaning I → ℕ → ℕ → List ℕ → Type 0
+HasNoContents {I} format identity place record_bytes =
+    (followers : ℕ) (item : I) → ¬ HasContents format identity place followers item record_bytes
 
 -- the records before a place are the header and those of groups with these items, of which so many
 -- are left
@@ -53,12 +53,17 @@ abbrev pub kept_in : Reading → ℕ
 kept_in (Groups kept left) = kept
 kept_in (Behind kept) = kept
 
--- a record stands at a place of the bytes, and a piece of them from a place on
-abbrev pub IsRecordAt : ℕ → List ℕ → ℕ → List ℕ → Type 0
-IsRecordAt long record_bytes place bytes = record_at long place bytes ≡ record_bytes
+-- on the disk of an identity, a record stands at a place of the bytes, and a piece of them from a
+-- place on
+abbrev pub IsRecordAt : {I : Type 0} → FormatMeaning I → ℕ → List ℕ → ℕ → List ℕ → Type 0
+IsRecordAt format identity record_bytes place bytes =
+    (record_at format.record_length place bytes ≡ record_bytes)
+    × (identity_in format bytes ≡ identity)
 
-abbrev pub IsPieceAt : ℕ → List ℕ → ℕ → List ℕ → Type 0
-IsPieceAt long piece place bytes = piece ≡ range_of (long * place) (length piece) bytes
+abbrev pub IsPieceAt : {I : Type 0} → FormatMeaning I → ℕ → List ℕ → ℕ → List ℕ → Type 0
+IsPieceAt format identity piece place bytes =
+    (piece ≡ range_of (format.record_length * place) (length piece) bytes)
+    × (identity_in format bytes ≡ identity)
 
 -- so many records are read, wherever these stand, and a visitor takes their items
 pub record ReadsOn {I V : Type 0} (format : FormatMeaning I) (takes : V → I → V → Type 0)

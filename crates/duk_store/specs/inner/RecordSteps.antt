@@ -4,7 +4,7 @@ use Rattle.duk_store.specs.Disk.{DiskState, HasFailed, LeavesReads, LeavesWithin
 use Rattle.duk_store.specs.declared.fault.StoreFault.{StoreFault}
 use Rattle.duk_store.specs.declared.fault.StoreFault.TheVariants.{Damaged}
 use Rattle.duk_store.specs.Format.{FormatMeaning}
-use Rattle.duk_store.specs.Records.{AreListed, HasHeader, IsRecordsSize, KeepsItems}
+use Rattle.duk_store.specs.Records.{AreListed, HasHeader, IsRecordsSize, KeepsItems, identity_in}
 use Rattle.duk_store.specs.Visitor.{TakesAll}
 use Rattle.duk_store.specs.inner.Reading.{IsUnreadable, ReadsOn}
 use Rattle.duk_store.specs.declared.reading.Reading.{Reading}
@@ -17,17 +17,22 @@ pub record HoldsCount
   pub keeps : KeepsItems format disk.reads items
   pub counted : length items ≡ count
 
+-- an honest disk has this identity
+abbrev pub HasIdentity : {I : Type 0} → FormatMeaning I → ℕ → DiskState → Type 0
+HasIdentity format identity disk = disk.honest → identity_in format disk.reads ≡ identity
+
 -- what running records know of their disk is so
-pub record KnowsCount
-    {I : Type 0} (format : FormatMeaning I) (count : ℕ) (disk : DiskState) : Type 0 where
+pub record KnowsCount {I : Type 0} (format : FormatMeaning I) (identity count : ℕ)
+    (disk : DiskState) : Type 0 where
   pub size : IsRecordsSize format disk.size
   pub size_fits : disk.size < 2 ^ 64
   pub fits : format.record_length * (format.headers + count) ≤ disk.size
+  pub identity_is : HasIdentity format identity disk
   pub holds : disk.honest → HoldsCount format count disk
 
-abbrev pub KnowsRecords : {I : Type 0} → FormatMeaning I → DiskState → Option ℕ → Type 0
-KnowsRecords format disk None = Unit {0}
-KnowsRecords format disk (Some count) = KnowsCount format count disk
+abbrev pub KnowsRecords : {I : Type 0} → FormatMeaning I → ℕ → DiskState → Option ℕ → Type 0
+KnowsRecords format identity disk None = Unit {0}
+KnowsRecords format identity disk (Some count) = KnowsCount format identity count disk
 
 -- a call that changes nothing
 pub record StaysSame (old new : DiskState) : Type 0 where

@@ -6,12 +6,12 @@ pub returns-in-Ok-write_new-clause-refused : goal.returns-in-Ok-write_new-clause
 returns-in-Ok-write_new-clause-refused g c =
     let meaning = g.S.Disk.Disk.meaning in
     if_err _ _ c.keep_new.result
-    (λ why refused. not_kept meaning (g.S.LogFiles.making c.args.files.now c.args.file.now) c.args.size c.args.kept (meaning.state_of c.args.old.now) (meaning.state_of c.write_new.new.old)
+    (λ why refused. not_kept c.args.source c.args.identity meaning (g.S.LogFiles.making c.args.files.now c.args.file.now) c.args.size (meaning.state_of c.args.old.now) (meaning.state_of c.write_new.new.old)
     c.in-Ok.disk c.write_new.new.disk why c.in-Ok.ensures.made c.in-Ok-write_new.ensures.written.copied refused)
     c.keep_new.ensures.refused
 
 pub returns-in-Err-clause-refused : goal.returns-in-Err-clause-refused
 returns-in-Err-clause-refused g c =
     let meaning = g.S.Disk.Disk.meaning in
-    not_made meaning (g.S.LogFiles.making c.args.files.now c.args.file.now) c.args.size c.args.kept (meaning.state_of c.args.old.now) (meaning.state_of c.write_new.new.old)
+    not_made c.args.source c.args.identity meaning (g.S.LogFiles.making c.args.files.now c.args.file.now) c.args.size (meaning.state_of c.args.old.now) (meaning.state_of c.write_new.new.old)
     c.in-Ok.disk c.write_new.new.disk c.in-Err.why c.in-Ok.ensures.made c.in-Err.ensures.refused c.write_new.ensures.left

@@ -11,7 +11,7 @@ invariant-loop-end g l = record {
   arming : StaysArmed (g.D.Disk.meaning.state_of l.fn.disk) (g.D.Disk.meaning.state_of l.disk);
   bytes : PreservesBytes (g.D.Disk.meaning.state_of l.fn.disk) (g.D.Disk.meaning.state_of l.disk);
   no_failure : (g.D.Disk.meaning.state_of l.disk).failures ≡ (g.D.Disk.meaning.state_of l.fn.disk).failures;
-  none : (g.D.Disk.meaning.state_of l.disk).honest → HasNone l.format l.mark l.end l.below (g.D.Disk.meaning.state_of l.disk).reads;
+  none : (g.D.Disk.meaning.state_of l.disk).honest → HasNone l.layout l.mark l.end l.below (g.D.Disk.meaning.state_of l.disk).reads;
 }
 
 abbrev pub decreases-loop-end : goal.decreases-loop-end

@@ -1,5 +1,5 @@
 use Rattle.std.proofs.Common.{◌≡◌, ◌∙◌, ◌+◌, ◌*◌, ◌<◌, List, ℕ, true, false, arith, length, subst, sym}
-use Rattle.duk_service.specs.LeftRecords.{AreClosedFrom, AreInGroups, record_length}
+use Rattle.duk_service.specs.LeftRecords.{AreClosedFrom, AreInGroups, HasFront, record_length}
 use Rattle.duk_service.specs.inner.LeftRecords.{HasLast}
 use Rattle.duk_service.specs.declared.left_records.Mark.TheVariants.{Used}
 use Rattle.duk_service.proofs.LeftRecords.{blank_seen, foreign_seen, last_used, used_left}
@@ -10,9 +10,11 @@ pub returns-in-None-clause-seen : goal.returns-in-None-clause-seen
 returns-in-None-clause-seen g c honest =
     let disk = c.find_last.new.disk in
     let d = g.D.Disk.meaning.state_of disk in
-    let size : length d.reads ≡ record_length c.args.format * c.args.records =
+    let size : length d.reads ≡ record_length c.args.layout * c.args.records =
     g.D.Disk.leaves_its_size disk honest d.reads (g.D.Disk.reads_may_stay disk honest) ∙ c.in_ok-find_last.ensures.nature.size ∙ c.requires.size in
-    blank_seen c.args.format c.args.records d.reads c.in_ok-find_last.field-0 c.in-None.is c.requires.some size (c.in_ok-find_last.ensures.found honest)
+    blank_seen c.args.layout c.args.records d.reads c.in_ok-find_last.field-0 c.in-None.is c.requires.some size
+    (subst (λ (b : List ℕ). HasFront c.args.layout b) (sym c.in_ok-find_last.ensures.bytes.reads) (c.requires.front (c.in_ok-find_last.ensures.nature.honest.1 honest)))
+    (c.in_ok-find_last.ensures.found honest)
 
 pub returns-then-may_stand-clause-seen : goal.returns-then-may_stand-clause-seen
 returns-then-may_stand-clause-seen g c honest =
@@ -23,13 +25,14 @@ returns-then-may_stand-clause-seen g c honest =
     let three = c.in_ok-gated.ensures in
     let honest_two = three.nature.honest.1 honest in
     let honest_one = two.nature.honest.1 honest_two in
-    let size : length d.reads ≡ record_length c.args.format * c.args.records =
+    let size : length d.reads ≡ record_length c.args.layout * c.args.records =
     g.D.Disk.leaves_its_size disk honest d.reads (g.D.Disk.reads_may_stay disk honest) ∙ three.nature.size ∙ two.nature.size ∙ one.nature.size ∙ c.requires.size in
-    let used : HasLast c.args.format Used 0 c.args.records d.reads c.in-Some.last =
-    last_used c.args.format c.args.records c.in-Some.last _ d.reads c.in_ok-find_last.field-0 c.in-Some.is (sym (three.bytes.reads ∙ two.bytes.reads)) (one.found honest_one) in
-    let counted : AreClosedFrom c.args.format (c.in-Some.last + 1) d.reads → AreInGroups c.args.format c.in_ok-kept.kept d.reads =
-    subst (λ (b : List ℕ). AreClosedFrom c.args.format (c.in-Some.last + 1) b → AreInGroups c.args.format c.in_ok-kept.kept b) (sym three.bytes.reads) (two.counted honest_two) in
-    used_left c.args.format c.args.records c.in-Some.last c.in_ok-kept.kept c.in_ok-gated.gated d.reads size used counted (three.found honest)
+    let used : HasLast c.args.layout Used 0 c.args.records d.reads c.in-Some.last =
+    last_used c.args.layout c.args.records c.in-Some.last _ d.reads c.in_ok-find_last.field-0 c.in-Some.is (sym (three.bytes.reads ∙ two.bytes.reads)) (one.found honest_one) in
+    let counted : AreClosedFrom c.args.layout (c.in-Some.last + 1) d.reads → AreInGroups c.args.layout c.in_ok-kept.kept d.reads =
+    subst (λ (b : List ℕ). AreClosedFrom c.args.layout (c.in-Some.last + 1) b → AreInGroups c.args.layout c.in_ok-kept.kept b) (sym three.bytes.reads) (two.counted honest_two) in
+    used_left c.args.layout c.args.records c.in-Some.last c.in_ok-kept.kept c.in_ok-gated.gated d.reads size used counted (three.found honest)
+    (subst (λ (b : List ℕ). HasFront c.args.layout b) (sym (three.bytes.reads ∙ two.bytes.reads ∙ one.bytes.reads)) (c.requires.front (one.nature.honest.1 honest_one)))
     (subst (λ (n : ℕ). c.in-Some.last < c.in_ok-kept.kept + n) c.most_of_group.ensures c.if-last-kept.true)
     (c.may_stand.ensures.0 c.if-may_stand.true)
 
@@ -42,13 +45,14 @@ returns-else-last-kept-clause-seen g c honest =
     let three = c.in_ok-gated.ensures in
     let honest_two = three.nature.honest.1 honest in
     let honest_one = two.nature.honest.1 honest_two in
-    let size : length d.reads ≡ record_length c.args.format * c.args.records =
+    let size : length d.reads ≡ record_length c.args.layout * c.args.records =
     g.D.Disk.leaves_its_size disk honest d.reads (g.D.Disk.reads_may_stay disk honest) ∙ three.nature.size ∙ two.nature.size ∙ one.nature.size ∙ c.requires.size in
-    let used : HasLast c.args.format Used 0 c.args.records d.reads c.in-Some.last =
-    last_used c.args.format c.args.records c.in-Some.last _ d.reads c.in_ok-find_last.field-0 c.in-Some.is (sym (three.bytes.reads ∙ two.bytes.reads)) (one.found honest_one) in
-    let counted : AreClosedFrom c.args.format (c.in-Some.last + 1) d.reads → AreInGroups c.args.format c.in_ok-kept.kept d.reads =
-    subst (λ (b : List ℕ). AreClosedFrom c.args.format (c.in-Some.last + 1) b → AreInGroups c.args.format c.in_ok-kept.kept b) (sym three.bytes.reads) (two.counted honest_two) in
-    foreign_seen c.args.format c.args.records c.in-Some.last c.in_ok-kept.kept c.in_ok-gated.gated d.reads size used counted (three.found honest)
+    let used : HasLast c.args.layout Used 0 c.args.records d.reads c.in-Some.last =
+    last_used c.args.layout c.args.records c.in-Some.last _ d.reads c.in_ok-find_last.field-0 c.in-Some.is (sym (three.bytes.reads ∙ two.bytes.reads)) (one.found honest_one) in
+    let counted : AreClosedFrom c.args.layout (c.in-Some.last + 1) d.reads → AreInGroups c.args.layout c.in_ok-kept.kept d.reads =
+    subst (λ (b : List ℕ). AreClosedFrom c.args.layout (c.in-Some.last + 1) b → AreInGroups c.args.layout c.in_ok-kept.kept b) (sym three.bytes.reads) (two.counted honest_two) in
+    foreign_seen c.args.layout c.args.records c.in-Some.last c.in_ok-kept.kept c.in_ok-gated.gated d.reads size used counted (three.found honest)
+    (subst (λ (b : List ℕ). HasFront c.args.layout b) (sym (three.bytes.reads ∙ two.bytes.reads ∙ one.bytes.reads)) (c.requires.front (one.nature.honest.1 honest_one)))
     (λ so. elim c.else-last-kept.branch [
       | else-last-kept-via-then-last-kept+else-may_stand w ↦
           let never : true ≡ false = sym (w.may_stand.ensures.1 so.1) ∙ w.if-may_stand.false in cc

@@ -1,22 +1,17 @@
-use Rattle.std.proofs.Common.{◌≡◌, ◌≤◌, ◌*◌, ◌/◌, length, refl, subst, arith}
+use Rattle.std.proofs.Common.{◌≡◌, ◌≢◌, ◌≤◌, ◌*◌, ◌/◌, ◌%◌, ℕ, List, [], ap, length, refl, subst, sym, arith}
+use Rattle.std.proofs.lemmas.Result.{err_from_is_err_and}
 use Rattle.duk_show.specs.inner.Journal.{AreClosedBetween, IsOpenAt}
-use Rattle.duk_show.proofs.JournalRecords.{all_kept, open_behind}
+use Rattle.duk_show.proofs.JournalRecords.{all_kept, cut_behind, no_groups, open_behind}
 use Rattle.duk_show.proofs.journal.read_journal.Goals as goal
+
+pub returns-in_err-entries-clause-refused : goal.returns-in_err-entries-clause-refused
+returns-in_err-entries-clause-refused c =
+    let p = err_from_is_err_and c.from_residual.result c.from_residual.ensures.1 in
+    rw (p.1, p.2) (no_groups c.args.stored c.laws.ensures c.headed.ensures c.args.bytes.now c.requires c.in_err-entries.field-0.0 c.in_err-entries.ensures.refused)
 
 pub returns-in-Some-clause-refused : goal.returns-in-Some-clause-refused
 returns-in-Some-clause-refused c =
-    let bytes = c.args.bytes.now in
     let entries = c.in_ok-entries.entries.items in
-    let size : c.len.result ≡ length entries = omega (arith, c.len.ensures, c.in_ok-entries.entries.ok.0) in
-    open_behind c.one_contents.ensures entries bytes c.in-Some.place c.in_ok-entries.ensures.groups (subst (λ n. IsOpenAt n bytes c.in-Some.place) size c.in-Some.ensures)
-
-pub returns-clause-journal : goal.returns-clause-journal
-returns-clause-journal c =
-    let bytes = c.args.bytes.now in
-    let entries = c.in_ok-entries.entries.items in
-    let records = length bytes / 32 in
-    let size : c.len.result ≡ length entries = omega (arith, c.len.ensures, c.in_ok-entries.entries.ok.0) in
-    let closed = subst (λ n. AreClosedBetween n records bytes) size c.in_default.ensures in
-    let some : 1 ≤ records = omega (arith, c.if-records-eq0.false) in
-    let whole : length bytes ≡ 32 * records = omega (arith, c.if-bytes-ne0.false) in
-    all_kept entries bytes records c.in_ok-entries.ensures.groups refl closed some whole
+    let size : c.len-2.result ≡ length entries = omega (arith, c.len-2.ensures, c.in_ok-entries.entries.ok.0) in
+    open_behind c.args.stored c.laws.ensures c.headed.ensures c.args.bytes.now c.requires entries c.in-Some.place c.in_ok-entries.ensures.groups
+    (subst (λ n. IsOpenAt n c.args.stored.records.now c.in-Some.place) size c.in-Some.ensures)

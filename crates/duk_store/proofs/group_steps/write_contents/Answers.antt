@@ -37,7 +37,7 @@ loop-index-preserved g c =
             let honest = i.nature.honest.0 h in
             let size = g.D.Disk.leaves_its_size c.loop-index.disk honest mid.reads (g.D.Disk.reads_may_stay c.loop-index.disk honest) in
             let inside : format.record_length * (place + length group) ≤ length mid.reads = omega (arith, size, i.nature.size, c.requires.room.inside) in
-            next_written format c.requires.format group place index c.loop-index-test.true c.index-group-index.result c.followers_of-followers.result old.reads mid.reads new.reads
+            next_written format c.requires.format group place index c.loop-index-test.true c.args.identity c.index-group-index.result c.followers_of-followers.result old.reads mid.reads new.reads
             (item_got group index c.index-group-index.result c.loop-index-test.true c.index-group-index.is) c.followers_of-followers.ensures.followers inside (c.in_ok-write_record.ensures.written honest) (i.reads h);
       };
       arming = λ disarmed. c.loop-index.invariant.arming (c.write_record.ensures.arming disarmed);

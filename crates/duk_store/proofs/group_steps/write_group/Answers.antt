@@ -21,7 +21,7 @@ returns-clause-written g c =
       leaves = λ h. opens.leaves (synced.nature.honest.0 h);
       written = λ h.
           let honest = synced.nature.honest.0 h in
-          group_written format c.args.group.now c.args.place old.reads mid.reads new.reads c.requires.group.some (synced.written h) (opens.all_but honest) (opens.is_open honest);
+          group_written format c.args.identity c.args.group.now c.args.place old.reads mid.reads new.reads c.requires.group.some (synced.written h) (opens.all_but honest) (opens.is_open honest);
     })
     c.open_gate.ensures.open_now
 
@@ -38,6 +38,6 @@ returns-clause-failed g c =
     record {
       nature = keeps_on old mid new synced.nature failed.nature;
       failed = fails_later old mid new fault synced.nature synced.no_failure failed.failed;
-      torn = λ h bytes left. group_torn format c.args.group.now c.args.place old.reads mid.reads bytes c.requires.group.some (synced.written h) (failed.all_but (synced.nature.honest.0 h) bytes left);
+      torn = λ h bytes left. group_torn format c.args.identity c.args.group.now c.args.place old.reads mid.reads bytes c.requires.group.some (synced.written h) (failed.all_but (synced.nature.honest.0 h) bytes left);
     })
     c.open_gate.ensures.failed

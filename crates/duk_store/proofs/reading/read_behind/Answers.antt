@@ -15,5 +15,5 @@ returns-else-bytes-eq-OPEN-clause-read g c =
       most = omega arith;
       read = λ earlier place bytes is was.
           subst (λ l. HasReadBehind format c.args.kept l (place + 1) bytes) (sym (append-nil earlier))
-          (behind_read format c.args.kept place earlier bytes was (subst (λ (r : List ℕ). ¬ IsOpen r) (sym is) c.if-bytes-eq-OPEN.false));
+          (behind_read format c.args.kept place earlier bytes was (subst (λ (r : List ℕ). ¬ IsOpen r) (sym is.0) c.if-bytes-eq-OPEN.false));
     }

@@ -1,9 +1,9 @@
 use Rattle.std.proofs.Common.{◌+◌, ◌∷◌, ◌∙◌, [], inl, inr, List, ℕ, arith, refl, subst, sym}
 use Rattle.std.proofs.lemmas.List.{append-nil, append_assoc}
 use Rattle.std.proofs.lemmas.Result.{err_from_is_err_and}
-use Rattle.duk_store.specs.Records.{HasContents, IsOpen}
-use Rattle.duk_store.specs.inner.Reading.{HasNoContents, HasReadBehind}
-use Rattle.duk_store.proofs.RecordsRead.{end_read, first_read, no_first}
+use Rattle.duk_store.specs.Records.{IsOpen}
+use Rattle.duk_store.specs.inner.Reading.{HasReadBehind}
+use Rattle.duk_store.proofs.RecordsRead.{end_read, first_read, no_first, said_here, said_there}
 use Rattle.duk_store.proofs.reading.read_first.Goals as goal
 
 pub returns-then-bytes-ne-OPEN-clause-read : goal.returns-then-bytes-ne-OPEN-clause-read
@@ -16,7 +16,7 @@ returns-then-bytes-ne-OPEN-clause-read g c =
       most = omega arith;
       read = λ earlier place bytes is was.
           subst (λ l. HasReadBehind format c.args.kept l (place + 1) bytes) (sym (append-nil earlier))
-          (end_read format c.args.kept place earlier bytes was (subst (λ (r : List ℕ). ¬ IsOpen r) (sym is) c.if-bytes-ne-OPEN.true));
+          (end_read format c.args.kept place earlier bytes was (subst (λ (r : List ℕ). ¬ IsOpen r) (sym is.0) c.if-bytes-ne-OPEN.true));
     }
 
 pub returns-in_err-said-clause-refused : goal.returns-in_err-said-clause-refused
@@ -27,8 +27,8 @@ returns-in_err-said-clause-refused g c =
     rw (p.1, p.2) (inl (
       none.0,
       λ earlier place bytes is was.
-          no_first format c.args.kept place earlier bytes was (subst IsOpen (sym is) c.if-bytes-ne-OPEN.false)
-          (subst (λ (r : List ℕ). HasNoContents format place r) (sym is) (subst (λ (at : ℕ). HasNoContents format at c.args.bytes.now) (sym was.all_kept) none.1)),
+          no_first format c.args.kept place earlier bytes was (subst IsOpen (sym is.0) c.if-bytes-ne-OPEN.false)
+          (λ followers item has. none.1 followers item (said_here format c.args.identity (format.headers + c.args.kept) place followers item c.args.bytes.now bytes is was.all_kept has)),
     ))
 
 pub returns-in_err-take-clause-refused : goal.returns-in_err-take-clause-refused
@@ -42,9 +42,8 @@ returns-in_err-take-clause-refused g c =
       taken = refl {a = c.args.visitor.now};
       refused = c.in_err-take.ensures.refused;
       begins = λ earlier place bytes is was listed are.
-          let has = subst (λ (at : ℕ). HasContents format at c.in_ok-said.said.0 c.in_ok-said.said.1 c.args.bytes.now) (sym was.all_kept) c.in_ok-said.ensures.found in
-          let read = first_read format c.args.kept place earlier bytes c.requires.format c.in_ok-said.said.0 c.in_ok-said.said.1 was (subst IsOpen (sym is) c.if-bytes-ne-OPEN.false)
-          (subst (λ (r : List ℕ). HasContents format place c.in_ok-said.said.0 c.in_ok-said.said.1 r) (sym is) has) in
+          let has = said_there format c.args.identity (format.headers + c.args.kept) place c.in_ok-said.said.0 c.in_ok-said.said.1 c.args.bytes.now bytes is was.all_kept c.in_ok-said.ensures.found in
+          let read = first_read format c.args.kept place earlier bytes c.requires.format c.in_ok-said.said.0 c.in_ok-said.said.1 was (subst IsOpen (sym is.0) c.if-bytes-ne-OPEN.false) has in
           let rest = read.parts listed are in
           (rest.0, rest.2 ∙ append_assoc earlier (c.in_ok-said.said.1 ∷ []) rest.0);
     }))
@@ -58,7 +57,6 @@ returns-clause-read g c =
       kept = omega arith;
       most = omega arith;
       read = λ earlier place bytes is was.
-          let has = subst (λ (at : ℕ). HasContents format at c.in_ok-said.said.0 c.in_ok-said.said.1 c.args.bytes.now) (sym was.all_kept) c.in_ok-said.ensures.found in
-          first_read format c.args.kept place earlier bytes c.requires.format c.in_ok-said.said.0 c.in_ok-said.said.1 was (subst IsOpen (sym is) c.if-bytes-ne-OPEN.false)
-          (subst (λ (r : List ℕ). HasContents format place c.in_ok-said.said.0 c.in_ok-said.said.1 r) (sym is) has);
+          let has = said_there format c.args.identity (format.headers + c.args.kept) place c.in_ok-said.said.0 c.in_ok-said.said.1 c.args.bytes.now bytes is was.all_kept c.in_ok-said.ensures.found in
+          first_read format c.args.kept place earlier bytes c.requires.format c.in_ok-said.said.0 c.in_ok-said.said.1 was (subst IsOpen (sym is.0) c.if-bytes-ne-OPEN.false) has;
     }

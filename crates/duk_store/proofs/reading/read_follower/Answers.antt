@@ -2,7 +2,7 @@ use Rattle.std.proofs.Common.{◌+◌, ◌∷◌, ◌∙◌, [], inl, inr, List,
 use Rattle.std.proofs.lemmas.List.{append_assoc}
 use Rattle.std.proofs.lemmas.Result.{err_from_is_err_and}
 use Rattle.duk_store.specs.Records.{HasContents, IsOpen, after_gate}
-use Rattle.duk_store.proofs.RecordsRead.{follower_read, no_follower}
+use Rattle.duk_store.proofs.RecordsRead.{follower_read, no_follower, said_here, said_there}
 use Rattle.duk_store.proofs.reading.read_follower.Goals as goal
 
 pub returns-then-bytes-eq-OPEN-clause-refused : goal.returns-then-bytes-eq-OPEN-clause-refused
@@ -11,7 +11,7 @@ returns-then-bytes-eq-OPEN-clause-refused g c =
     inl (
       refl,
       λ earlier place bytes is was.
-          no_follower format c.args.kept place earlier bytes c.args.left c.requires.some was (inl (subst IsOpen (sym is) c.if-bytes-eq-OPEN.true)),
+          no_follower format c.args.kept place earlier bytes c.args.left c.requires.some was (inl (subst IsOpen (sym is.0) c.if-bytes-eq-OPEN.true)),
     )
 
 pub returns-in_err-said-clause-refused : goal.returns-in_err-said-clause-refused
@@ -23,7 +23,7 @@ returns-in_err-said-clause-refused g c =
       none.0,
       λ earlier place bytes is was.
           no_follower format c.args.kept place earlier bytes c.args.left c.requires.some was
-          (inr (λ item has. none.1 0 item (subst (λ (at : ℕ). HasContents format at 0 item c.args.bytes.now) was.all_kept (subst (λ (r : List ℕ). HasContents format place 0 item r) is has)))),
+          (inr (λ item has. none.1 0 item (said_here format c.args.identity (format.headers + c.args.kept) place 0 item c.args.bytes.now bytes is was.all_kept has))),
     ))
 
 pub returns-then-said-ne0-clause-refused : goal.returns-then-said-ne0-clause-refused
@@ -36,8 +36,8 @@ returns-then-said-ne0-clause-refused g c =
       λ earlier place bytes is was.
           no_follower format c.args.kept place earlier bytes c.args.left c.requires.some was
           (inr (λ item has.
-          let here = subst (λ (at : ℕ). HasContents format at 0 item c.args.bytes.now) was.all_kept (subst (λ (r : List ℕ). HasContents format place 0 item r) is has) in
-          c.if-said-ne0.true (c.requires.format.one_reading (format.headers + c.args.kept) followers 0 said item (after_gate c.args.bytes.now) c.in_ok-said.ensures.found here).0)),
+          let here = said_here format c.args.identity (format.headers + c.args.kept) place 0 item c.args.bytes.now bytes is was.all_kept has in
+          c.if-said-ne0.true (c.requires.format.one_reading c.args.identity (format.headers + c.args.kept) followers 0 said item (after_gate c.args.bytes.now) c.in_ok-said.ensures.found here).0)),
     )
 
 pub returns-in_err-take-clause-refused : goal.returns-in_err-take-clause-refused
@@ -52,10 +52,9 @@ returns-in_err-take-clause-refused g c =
       taken = refl {a = c.args.visitor.now};
       refused = c.in_err-take.ensures.refused;
       begins = λ earlier place bytes is was listed are.
-          let alone = subst (λ (f : ℕ). HasContents format (format.headers + c.args.kept) f item c.args.bytes.now) c.if-said-ne0.false c.in_ok-said.ensures.found in
-          let has = subst (λ (at : ℕ). HasContents format at 0 item c.args.bytes.now) (sym was.all_kept) alone in
-          let read = follower_read format c.args.kept place earlier bytes c.requires.format c.args.left item c.requires.some was (subst (λ (r : List ℕ). ¬ IsOpen r) (sym is) c.if-bytes-eq-OPEN.false)
-          (subst (λ (r : List ℕ). HasContents format place 0 item r) (sym is) has) in
+          let alone = subst (λ (f : ℕ). HasContents format c.args.identity (format.headers + c.args.kept) f item c.args.bytes.now) c.if-said-ne0.false c.in_ok-said.ensures.found in
+          let has = said_there format c.args.identity (format.headers + c.args.kept) place 0 item c.args.bytes.now bytes is was.all_kept alone in
+          let read = follower_read format c.args.kept place earlier bytes c.requires.format c.args.left item c.requires.some was (subst (λ (r : List ℕ). ¬ IsOpen r) (sym is.0) c.if-bytes-eq-OPEN.false) has in
           let rest = read.parts listed are in
           (rest.0, rest.2 ∙ append_assoc earlier (item ∷ []) rest.0);
     }))
@@ -70,8 +69,7 @@ returns-clause-read g c =
       kept = omega arith;
       most = omega arith;
       read = λ earlier place bytes is was.
-          let alone = subst (λ (f : ℕ). HasContents format (format.headers + c.args.kept) f item c.args.bytes.now) c.if-said-ne0.false c.in_ok-said.ensures.found in
-          let has = subst (λ (at : ℕ). HasContents format at 0 item c.args.bytes.now) (sym was.all_kept) alone in
-          follower_read format c.args.kept place earlier bytes c.requires.format c.args.left item c.requires.some was (subst (λ (r : List ℕ). ¬ IsOpen r) (sym is) c.if-bytes-eq-OPEN.false)
-          (subst (λ (r : List ℕ). HasContents format place 0 item r) (sym is) has);
+          let alone = subst (λ (f : ℕ). HasContents format c.args.identity (format.headers + c.args.kept) f item c.args.bytes.now) c.if-said-ne0.false c.in_ok-said.ensures.found in
+          let has = said_there format c.args.identity (format.headers + c.args.kept) place 0 item c.args.bytes.now bytes is was.all_kept alone in
+          follower_read format c.args.kept place earlier bytes c.requires.format c.args.left item c.requires.some was (subst (λ (r : List ℕ). ¬ IsOpen r) (sym is.0) c.if-bytes-eq-OPEN.false) has;
     }

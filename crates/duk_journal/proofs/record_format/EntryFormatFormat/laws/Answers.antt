@@ -10,9 +10,9 @@ returns c =
       has_contents = omega arith;
       one_header = omega arith;
       group_fits = omega arith;
-      whole = λ place followers entry contents says.
+      whole = λ identity place followers entry contents says.
           ap (λ bytes. length bytes + 1) says.written ∙ ap (λ n. n + 1) (contents_length followers entry ten says.entry_is.mac_length);
-      followers_fit = λ place followers entry contents says. says.followers_fit;
-      one_reading = λ place followers others entry other contents one two.
+      followers_fit = λ identity place followers entry contents says. says.followers_fit;
+      one_reading = λ identity place followers others entry other contents one two.
           same_contents_said ten c.serials.ensures.found followers others entry other contents one two;
     }

@@ -30,11 +30,11 @@ returns-in_err-write_group-clause-failed g c =
     let group = c.args.group.now in
     let count = c.in-Some.count in
     let why = c.in_err-write_group.field-0.0 in
-    let knows = subst (λ kept. KnowsRecords format (m.state_of own.disk) kept) c.in-Some.is c.self.invariant.1 in
-    let failed = subst (λ (n : ℕ). GroupFailed format group (n + count) (m.state_of own.disk) (m.state_of c.write_group.new.disk) why) c.headers.ensures c.in_err-write_group.ensures.failed in
+    let knows = subst (λ kept. KnowsRecords format own.identity (m.state_of own.disk) kept) c.in-Some.is c.self.invariant.1 in
+    let failed = subst (λ (n : ℕ). GroupFailed format own.identity group (n + count) (m.state_of own.disk) (m.state_of c.write_group.new.disk) why) c.headers.ensures c.in_err-write_group.ensures.failed in
     rw (p.1, p.2)
     (subst (λ records. GroupAppendFailed (records_meaning m g.F.Format.meaning) records (record { disk = c.write_group.new.disk; format = own.format; kept = None }) group why) c.self.view_is
-    (list_append_failed m g.F.Format.meaning own.format c.self.invariant.0 own.disk c.write_group.new.disk group count c.requires.group.some knows own.kept c.in-Some.is why (g.D.Disk.reads_may_stay c.write_group.new.disk) failed))
+    (list_append_failed m g.F.Format.meaning own.format c.self.invariant.0 own.disk c.write_group.new.disk own.identity group count c.requires.group.some knows own.kept c.in-Some.is why (g.D.Disk.reads_may_stay c.write_group.new.disk) failed))
 
 pub invariant_of-self-2 : goal.invariant_of-self-2
 invariant_of-self-2 g c = (
@@ -44,10 +44,10 @@ invariant_of-self-2 g c = (
       let format = g.F.Format.meaning own.format in
       let group = c.args.group.now in
       let count = c.in-Some.count in
-      let knows = subst (λ kept. KnowsRecords format (m.state_of own.disk) kept) c.in-Some.is c.self.invariant.1 in
-      let done = subst (λ (n : ℕ). WritesGroup format group (n + count) (m.state_of own.disk) (m.state_of c.write_group.new.disk)) c.headers.ensures c.in_ok-write_group.ensures.written in
+      let knows = subst (λ kept. KnowsRecords format own.identity (m.state_of own.disk) kept) c.in-Some.is c.self.invariant.1 in
+      let done = subst (λ (n : ℕ). WritesGroup format own.identity group (n + count) (m.state_of own.disk) (m.state_of c.write_group.new.disk)) c.headers.ensures c.in_ok-write_group.ensures.written in
       let room = inside m g.F.Format.meaning (record { disk = own.disk; format = own.format; kept = own.kept }) _ count (length group) c.self.view_is c.in-Some.is c.requires.group.some c.requires.room in
-      knows_group format c.self.invariant.0 (m.state_of own.disk) (m.state_of c.write_group.new.disk) group count c.requires.group.some knows room done),
+      knows_group format c.self.invariant.0 (m.state_of own.disk) (m.state_of c.write_group.new.disk) own.identity group count c.requires.group.some knows room done),
 )
 
 pub returns-clause-appended : goal.returns-clause-appended
@@ -57,7 +57,7 @@ returns-clause-appended g c =
     let format = g.F.Format.meaning own.format in
     let group = c.args.group.now in
     let count = c.in-Some.count in
-    let knows = subst (λ kept. KnowsRecords format (m.state_of own.disk) kept) c.in-Some.is c.self.invariant.1 in
-    let done = subst (λ (n : ℕ). WritesGroup format group (n + count) (m.state_of own.disk) (m.state_of c.write_group.new.disk)) c.headers.ensures c.in_ok-write_group.ensures.written in
+    let knows = subst (λ kept. KnowsRecords format own.identity (m.state_of own.disk) kept) c.in-Some.is c.self.invariant.1 in
+    let done = subst (λ (n : ℕ). WritesGroup format own.identity group (n + count) (m.state_of own.disk) (m.state_of c.write_group.new.disk)) c.headers.ensures c.in_ok-write_group.ensures.written in
     subst (λ records. IsGroupAppended (records_meaning m g.F.Format.meaning) records (record { disk = c.write_group.new.disk; format = own.format; kept = Some (count + length group) }) group) c.self.view_is
-    (list_appended m g.F.Format.meaning own.format c.self.invariant.0 own.disk c.write_group.new.disk group count c.requires.group.some knows own.kept c.in-Some.is done)
+    (list_appended m g.F.Format.meaning own.format c.self.invariant.0 own.disk c.write_group.new.disk own.identity group count c.requires.group.some knows own.kept c.in-Some.is done)

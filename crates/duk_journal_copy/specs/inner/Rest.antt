@@ -1,0 +1,18 @@
+-- What only private functions and proofs say of a journal that is written but for its first two bytes:
+-- this project's own.
+use Rattle.std.specs.Prelude.{◌≡◌, ◌-◌, ◌++◌, ℕ, List, drop, length, replicate}
+use Rattle.duk_journal.specs.Header.{header_of, journal_kind}
+use Rattle.duk_store.specs.Disk.{DiskState, PreservesDisk, written}
+
+-- the bytes of a journal with this identity, on a disk of this size: its header, these records, and
+-- zeros behind them
+abbrev pub journal_bytes : ℕ → List ℕ → ℕ → List ℕ
+journal_bytes identity records size =
+    header_of journal_kind identity ++ (records ++ replicate (size - 32 - length records) 0)
+
+-- a header with this identity is written but for its first two bytes
+pub record IsFrontWritten (identity : ℕ) (old new : DiskState) : Type 0 where
+  pub nature : PreservesDisk old new
+  pub no_failure : new.failures ≡ old.failures
+  pub front : old.honest
+      → new.reads ≡ written old.reads 2 (drop 2 (header_of journal_kind identity))

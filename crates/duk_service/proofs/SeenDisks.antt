@@ -1,0 +1,133 @@
+-- What a disk is that was looked at.
+use Rattle.std.proofs.Common.{◌≡◌, ◌≢◌, ◌∙◌, ℕ, List, arith, inl, inr, length, refl, subst, sym}
+use Rattle.std.specs.Prelude.{None, Option, Some}
+use Rattle.duk_journal_copy.specs.declared.version.Version.{Version}
+use Rattle.duk_journal_copy.specs.declared.version.Version.TheVariants.{One, Two}
+use Rattle.duk_service.specs.LeftRecords.{HasFront, IsCut, IsForeignAt, IsLeftBy, IsWhole, layout_of}
+use Rattle.duk_service.specs.LogFiles.{DiskKnown, IsDisk}
+use Rattle.duk_service.specs.OwnFiles.{IsJournalOf, IsNoOwnDisk, IsNotOwn, IsOnlyRead, IsOwn}
+use Rattle.duk_service.specs.declared.left_records.Layout.{Layout}
+use Rattle.duk_service.specs.declared.left_records.Layout.TheVariants as layout
+use Rattle.duk_service.specs.declared.left_records.RecordFormat.{RecordFormat}
+use Rattle.duk_service.specs.declared.left_records.RecordFormat.TheVariants.{Journal, Log}
+use Rattle.duk_service.specs.declared.left_records.Seen.{Seen}
+use Rattle.duk_service.specs.declared.left_records.Seen.TheVariants as seen
+use Rattle.duk_service.specs.declared.own_files.OpenFault.{OpenFault}
+use Rattle.duk_service.specs.declared.own_files.OpenFault.TheVariants as fault
+use Rattle.duk_service.specs.inner.LeftRecords.{IsSeen}
+use Rattle.duk_service.specs.inner.OwnFiles.{IsEitherSeen}
+use Rattle.duk_store.specs.Disk.{DiskMeaning, DiskState, HasFailed, PreservesBytes, PreservesDisk}
+use Rattle.duk_store.specs.declared.fault.StoreFault.{StoreFault}
+
+-- a disk is read, and then once more
+pub read_twice : (old mid new : DiskState) → IsOnlyRead old mid → IsOnlyRead mid new → IsOnlyRead old new
+read_twice old mid new one two = record {
+  nature = record {
+    honest = ((λ h. two.nature.honest.0 (one.nature.honest.0 h)), (λ h. one.nature.honest.1 (two.nature.honest.1 h)));
+    size = two.nature.size ∙ one.nature.size;
+    calm = λ calm. two.nature.calm (one.nature.calm calm);
+    disarmed = λ disarmed. two.nature.disarmed (one.nature.disarmed disarmed);
+  };
+  arming = λ armed. one.arming (two.arming armed);
+  bytes = record {
+    reads = two.bytes.reads ∙ one.bytes.reads;
+    may_leave = λ bytes. (
+      (λ left. (one.bytes.may_leave bytes).0 ((two.bytes.may_leave bytes).0 left)),
+      (λ left. (two.bytes.may_leave bytes).1 ((one.bytes.may_leave bytes).1 left)),
+    );
+  };
+}
+
+-- no call
+pub keeps_none : (disk : DiskState) → PreservesDisk disk disk
+keeps_none disk = record { honest = ((λ h. h), (λ h. h)); size = refl; calm = λ calm. calm; disarmed = λ disarmed. disarmed }
+
+pub bytes_none : (disk : DiskState) → PreservesBytes disk disk
+bytes_none disk = record { reads = refl; may_leave = λ bytes. ((λ left. left), (λ left. left)) }
+
+-- a failure after a reading without one
+pub fails_then : (old mid new : DiskState) (why : StoreFault) → PreservesDisk old mid → mid.failures ≡ old.failures → HasFailed mid new why → HasFailed old new why
+fails_then old mid new why nature none failed = record {
+  fault_is = failed.fault_is;
+  failure = λ same. failed.failure (same ∙ sym none);
+  not_calm = λ calm. failed.not_calm (nature.calm calm);
+}
+
+-- what is not seen to be left is not
+pub not_left : (laid : Layout) (disk : DiskState) (what : Seen) → what ≢ seen.Left → IsSeen laid disk what → disk.honest → ¬ IsLeftBy laid disk.reads
+not_left laid disk seen.Left other is h = absurd (other refl)
+not_left laid disk seen.Empty other is h = is.1 h
+not_left laid disk seen.Cut other is h = is.1 h
+not_left laid disk seen.OtherFront other is h = λ left. is.1 h left.front
+not_left laid disk (seen.Foreign place) other is h = (is h).not_left
+
+-- whole records are as many in either version
+whole_in : (one other : Version) (size : ℕ) → IsWhole (layout.Journal one) size → IsWhole (layout.Journal other) size
+whole_in one other size whole = whole
+
+cut_in : (one other : Version) (size : ℕ) → IsCut (layout.Journal one) size → IsCut (layout.Journal other) size
+cut_in one other size cut = record { some = cut.some; not_whole = cut.not_whole }
+
+-- a disk that is seen to be none of version 2, and not for its first record, is that of no journal
+pub no_version : (disk : DiskState) (what : Seen) → what ≢ seen.Left → what ≢ seen.OtherFront → IsSeen (layout.Journal Two) disk what
+    → (disk.honest → length disk.reads ≡ disk.size) → disk.honest → (version : Version) → ¬ IsJournalOf version disk.reads
+no_version disk what left front is size h Two = not_left (layout.Journal Two) disk what left is h
+no_version disk seen.Left left front is size h One = absurd (left refl)
+no_version disk seen.OtherFront left front is size h One = absurd (front refl)
+no_version disk seen.Empty left front is size h One = λ journal.
+    omega (arith, is.0, size h, journal.1.whole.1, journal.1.whole.2)
+no_version disk seen.Cut left front is size h One = λ journal.
+    is.0.not_whole (subst (λ (n : ℕ). IsWhole (layout.Journal Two) n) (size h) journal.1.whole)
+no_version disk (seen.Foreign place) left front is size h One = λ journal. journal.0 (is h).front
+
+-- one without a header is that of a journal of version 1, or of none
+pub version_one : (mid new : DiskState) → PreservesDisk mid new → PreservesBytes mid new → IsSeen (layout.Journal Two) mid seen.OtherFront
+    → IsSeen (layout.Journal One) new seen.Left → new.honest → IsJournalOf One new.reads
+version_one mid new nature bytes first second h = (
+  λ front. first.1 (nature.honest.1 h) (subst (λ (l : List ℕ). HasFront (layout.Journal Two) l) bytes.reads front),
+  second h,
+)
+
+pub neither_version : (mid new : DiskState) (what : Seen) → PreservesDisk mid new → PreservesBytes mid new → IsSeen (layout.Journal Two) mid seen.OtherFront
+    → what ≢ seen.Left → IsSeen (layout.Journal One) new what → new.honest → (version : Version) → ¬ IsJournalOf version new.reads
+neither_version mid new what nature bytes first left second h One = λ journal. not_left (layout.Journal One) new what left second h journal.1
+neither_version mid new what nature bytes first left second h Two = λ journal.
+    first.1 (nature.honest.1 h) (subst (λ (l : List ℕ). HasFront (layout.Journal Two) l) bytes.reads journal.front)
+
+-- what is seen at first is what is seen, unless its first record is another
+pub seen_first : (format : RecordFormat) (disk : DiskState) (what : Seen) → what ≢ seen.OtherFront → IsSeen (layout_of format) disk what → IsEitherSeen format disk what
+seen_first Log disk seen.Left front is = is
+seen_first Journal disk seen.Left front is = λ h. (Two, is h)
+seen_first format disk seen.Empty front is = is.0
+seen_first format disk seen.Cut front is = is.0
+seen_first format disk seen.OtherFront front is = absurd (front refl)
+seen_first Log disk (seen.Foreign place) front is = is
+seen_first Journal disk (seen.Foreign place) front is = λ h. inl (is h)
+
+-- and what is seen then is
+pub seen_second : (format : RecordFormat) (mid new : DiskState) (what : Seen) → PreservesDisk mid new → PreservesBytes mid new → IsSeen (layout_of format) mid seen.OtherFront
+    → IsSeen (layout.Journal One) new what → IsEitherSeen format new what
+seen_second Log mid new what nature bytes first second = absurd (first.0 refl)
+seen_second Journal mid new what nature bytes first second = second_of what second
+  where
+    no_header : new.honest → ¬ HasFront (layout.Journal Two) new.reads
+    no_header h = λ front. first.1 (nature.honest.1 h) (subst (λ (l : List ℕ). HasFront (layout.Journal Two) l) bytes.reads front)
+
+    none : (new.honest → ¬ HasFront (layout.Journal One) new.reads) → new.honest → (version : Version) → ¬ HasFront (layout.Journal version) new.reads
+    none other h One = other h
+    none other h Two = no_header h
+
+    second_of : (what : Seen) → IsSeen (layout.Journal One) new what → IsEitherSeen Journal new what
+    second_of seen.Left is = λ h. (One, (no_header h, is h))
+    second_of seen.Empty is = is.0
+    second_of seen.Cut is = cut_in One Two new.size is.0
+    second_of seen.OtherFront is = none is.1
+    second_of (seen.Foreign place) is = λ h. inr (no_header h, is h)
+
+-- why a disk is not opened
+pub not_own : {D : Type 0} (format : RecordFormat) (meaning : DiskMeaning D) (known : DiskKnown D) (opened disk : D) (why : OpenFault) → IsDisk known opened
+    → IsOnlyRead (meaning.state_of opened) (meaning.state_of disk) → IsNotOwn format (meaning.state_of opened) (meaning.state_of disk) why → IsNoOwnDisk format meaning known why
+not_own format meaning known opened disk fault.Unopened is_opened read none = absurd none
+not_own format meaning known opened disk fault.Failed is_opened read none = (disk, record { opened = opened; is_opened = is_opened; only_read = read; is = none })
+not_own format meaning known opened disk fault.Foreign is_opened read none = (disk, record { opened = opened; is_opened = is_opened; only_read = read; is = none })
+not_own format meaning known opened disk fault.OldVersion is_opened read none = (disk, record { opened = opened; is_opened = is_opened; only_read = read; is = none })
