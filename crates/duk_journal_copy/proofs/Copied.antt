@@ -100,9 +100,10 @@ copied_record version own identity count size old xs many room own_is each place
 -- a disk that leaves what it reads finds what that keeps
 finds_them : ((bytes : List ℕ) (one two : Entries) → KeepsChecked bytes one → KeepsChecked bytes two → one ≡ two)
     → (after : DiskState) (entries : Entries) → LeavesReads after → KeepsChecked after.reads entries → FindsOnly (disk_journal_state after None) entries
-finds_them one_list after entries leaves keeps = λ other.
-    ((λ found. one_list found.0 other entries found.2 (subst (λ (l : List ℕ). KeepsChecked l entries) (sym ((leaves found.0).0 found.1)) keeps)),
-        (λ is. (after.reads, (leaves after.reads).1 refl, subst (λ (es : Entries). KeepsChecked after.reads es) (sym is) keeps)))
+finds_them one_list after entries leaves keeps = λ other. (
+  (λ found. one_list found.0 other entries found.2 (subst (λ (l : List ℕ). KeepsChecked l entries) (sym ((leaves found.0).0 found.1)) keeps)),
+  (λ is. (after.reads, (leaves after.reads).1 refl, subst (λ (es : Entries). KeepsChecked after.reads es) (sym is) keeps)),
+)
 
 module _ (one_list : (bytes : List ℕ) (one two : Entries) → KeepsChecked bytes one → KeepsChecked bytes two → one ≡ two)
     (kept : Kept) (is_format : IsFormat (format_of kept.version)) (identity own : ℕ) (fits : identity < 2 ^ 64)

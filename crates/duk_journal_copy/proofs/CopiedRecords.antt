@@ -109,17 +109,19 @@ piece_on version own identity headers at count old old' old'' new new' new'' lon
       let second = two.copied (one.nature.honest.0 k) in
       let first_long : length first.0 ≡ 32 * at = first.1 ∙ omega arith in
       let all_long : length (first.0 ++ second.0) ≡ 32 * (at + count - 0) = length-append first.0 second.0 ∙ omega (arith, first_long, second.1) in
-      let behind : 32 * (1 + at) ≡ 32 + length first.0 = omega (arith, first_long) in
-      (first.0 ++ second.0, all_long,
-          λ h place less.
-          converted_on version own identity ((format_of version).headers + 0) (headers + at) 1 (1 + at) at count old.reads first.0 second.0 first_long
-          (omega (arith, is)) refl
-          (λ p q. first.2 h p (omega (arith, q)))
-          (subst (λ (l : List ℕ). AreConvertedFrom version (spot own (headers + at)) (new_spot identity at) count l second.0) one.stays.bytes.reads
-          (second.2 (one.stays.nature.honest.0 h)))
-          place (omega (arith, less)),
-          second.3 ∙ ap (λ (l : List ℕ). written l (32 * (1 + at)) second.0) first.3
-          ∙ written_behind new.reads first.0 second.0 32 (32 * (1 + at)) behind (omega (arith, second.1, long k, room)));
+      let behind : 32 * (1 + at) ≡ 32 + length first.0 = omega (arith, first_long) in (
+        first.0 ++ second.0,
+        all_long,
+        λ h place less.
+            converted_on version own identity ((format_of version).headers + 0) (headers + at) 1 (1 + at) at count old.reads first.0 second.0 first_long
+            (omega (arith, is)) refl
+            (λ p q. first.2 h p (omega (arith, q)))
+            (subst (λ (l : List ℕ). AreConvertedFrom version (spot own (headers + at)) (new_spot identity at) count l second.0) one.stays.bytes.reads
+            (second.2 (one.stays.nature.honest.0 h)))
+            place (omega (arith, less)),
+        second.3 ∙ ap (λ (l : List ℕ). written l (32 * (1 + at)) second.0) first.3
+            ∙ written_behind new.reads first.0 second.0 32 (32 * (1 + at)) behind (omega (arith, second.1, long k, room)),
+      );
 }
 
 -- a piece that is not copied, behind others that are
@@ -133,12 +135,14 @@ cause_on version own headers at count all old old' old'' new new' new'' New is w
     fails_later new new' new'' _ nature no_failure cause
 cause_on version own headers at count all old old' old'' new new' new'' Changed is within stays nature no_failure cause = λ h.
     let none = cause (stays.nature.honest.0 h) in
-    let there : (format_of version).headers + 0 + (at + none.0) ≡ headers + at + none.0 = omega (arith, is) in
-    (at + none.0, omega (arith, none.1, within),
-        λ followers entry has.
-        none.2 followers entry
-        (subst (λ (l : List ℕ). HasContents (format_of version) own (headers + at + none.0) followers entry (record_at (headers + at + none.0) l)) (sym stays.bytes.reads)
-        (subst (λ (n : ℕ). HasContents (format_of version) own n followers entry (record_at n old.reads)) there has)))
+    let there : (format_of version).headers + 0 + (at + none.0) ≡ headers + at + none.0 = omega (arith, is) in (
+      at + none.0,
+      omega (arith, none.1, within),
+      λ followers entry has.
+          none.2 followers entry
+          (subst (λ (l : List ℕ). HasContents (format_of version) own (headers + at + none.0) followers entry (record_at (headers + at + none.0) l)) (sym stays.bytes.reads)
+          (subst (λ (n : ℕ). HasContents (format_of version) own n followers entry (record_at n old.reads)) there has)),
+    )
 
 pub piece_not : (kept : Kept) (own headers at count : ℕ) (old old' old'' new new' new'' : DiskState) (why : CopyFault)
     → headers ≡ (format_of kept.version).headers → at + count ≤ kept.count → StaysRead old old' → PreservesDisk new new' → new'.failures ≡ new.failures

@@ -64,16 +64,19 @@ module _ (format : FormatMeaning Entry) (is_format : IsFormat format) (identity 
   kept_from (entry ∷ later) zero spot place there ends kept at here =
       let less : place < count = omega (arith, ends) in
       let opened : IsOpen (record_at (1 + place) new) =
-      (same place less).gate.1 (subst (λ (n : ℕ). IsOpen (old_record n)) there kept.1) in
-      (kept.0, subst (λ (n : ℕ). IsOpen (record_at n new)) (sym here) opened,
-          subst (λ (n : ℕ). Stands n kept.0 entry) (sym here) (said spot place kept.0 entry there less kept.2),
-          kept_from later kept.0 (spot + 1) (place + 1) (omega (arith, there)) (omega (arith, ends)) kept.3 (at + 1) (omega (arith, here)))
+      (same place less).gate.1 (subst (λ (n : ℕ). IsOpen (old_record n)) there kept.1) in (
+        kept.0,
+        subst (λ (n : ℕ). IsOpen (record_at n new)) (sym here) opened,
+        subst (λ (n : ℕ). Stands n kept.0 entry) (sym here) (said spot place kept.0 entry there less kept.2),
+        kept_from later kept.0 (spot + 1) (place + 1) (omega (arith, there)) (omega (arith, ends)) kept.3 (at + 1) (omega (arith, here)),
+      )
   kept_from (entry ∷ later) (suc left) spot place there ends kept at here =
-      let less : place < count = omega (arith, ends) in
-      (λ opened. kept.0 (subst (λ (n : ℕ). IsOpen (old_record n)) (sym there)
-          ((same place less).gate.0 (subst (λ (n : ℕ). IsOpen (record_at n new)) here opened))),
-          subst (λ (n : ℕ). Stands n 0 entry) (sym here) (said spot place 0 entry there less kept.1),
-          kept_from later left (spot + 1) (place + 1) (omega (arith, there)) (omega (arith, ends)) kept.2 (at + 1) (omega (arith, here)))
+      let less : place < count = omega (arith, ends) in (
+        λ opened. kept.0 (subst (λ (n : ℕ). IsOpen (old_record n)) (sym there)
+            ((same place less).gate.0 (subst (λ (n : ℕ). IsOpen (record_at n new)) here opened))),
+        subst (λ (n : ℕ). Stands n 0 entry) (sym here) (said spot place 0 entry there less kept.1),
+        kept_from later left (spot + 1) (place + 1) (omega (arith, there)) (omega (arith, ends)) kept.2 (at + 1) (omega (arith, here)),
+      )
 
 -- records of zeros are closed
 closed_zeros : (place size : ℕ) (bytes : List ℕ) → drop (32 * place) bytes ≡ replicate size 0 → records.AreClosedFrom 32 place bytes

@@ -20,11 +20,7 @@ pub(crate) const HEADER_LENGTH: u64 = RECORD_LENGTH as u64;
 /// behind them is synced: a disk that begins as that of no journal is none until they are.
 ///
 /// Refused with `Device` where a device step failed.
-pub fn write_journal<D: Disk>(
-    disk: &mut D,
-    identity: u64,
-    zeros: &[u8],
-) -> Result<(), StoreFault>
+pub fn write_journal<D: Disk>(disk: &mut D, identity: u64, zeros: &[u8]) -> Result<(), StoreFault>
     requires zeros { zeros.now ≡ replicate 65536 0 }
     requires room { 32 ≤ (D.meaning.state_of disk.old).size }
     ensures begun { OnOk result (IsJournalBegun identity

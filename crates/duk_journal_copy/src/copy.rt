@@ -214,7 +214,10 @@ fn copy_piece<D: Disk, E: Disk>(
 {
     let _old_size = old.size();
     let _new_size = new.size();
-    if old.read_at(RECORD_LENGTH as u64 * from.place, records).is_err() {
+    if old
+        .read_at(RECORD_LENGTH as u64 * from.place, records)
+        .is_err()
+    {
         return Err(CopyFault::Old);
     }
     if convert_records(version, from, to, count, records).is_err() {

@@ -42,7 +42,11 @@ pub not_kept : {D : Type 0} (source : Source) (identity : ℕ) (meaning : DiskMe
     → NewNotKept meaning making.folder source.checked filled why → CopyNotMade source identity meaning making size old old' why
 not_kept source identity meaning making size old old' made filled fault.OutOfMemory is_made written refused =
     record {
-      made = made; filled = filled; last = refused.last.disk; is_made = is_made; written = written;
+      made = made;
+      filled = filled;
+      last = refused.last.disk;
+      is_made = is_made;
+      written = written;
       left_is = left_read_over (kept_in source) identity old (meaning.state_of made) (meaning.state_of filled) (meaning.state_of refused.last.disk) refused.last.format refused.last.kept refused.version written refused.read_over;
     }
 not_kept source identity meaning making size old old' made filled fault.Unmade is_made written refused =

@@ -114,7 +114,16 @@ pub fn copy_journal<S: LogFiles>(
     let Some(size) = size_of_copy(version, size) else {
         return Err(CopyJournalFault::Unmade);
     };
-    make_new(alloc, files, new, size, source, &mut disk, identity, &mut pieces)
+    make_new(
+        alloc,
+        files,
+        new,
+        size,
+        source,
+        &mut disk,
+        identity,
+        &mut pieces,
+    )
 }
 
 /// The bytes of a copy, with as much room as a journal of so many has: in front of a copy stands a
@@ -210,7 +219,14 @@ fn make_new<S: LogFiles>(
         return Err(CopyJournalFault::Unmade);
     };
     match write_new(size, source, old, identity, pieces, &mut disk) {
-        Ok(()) => keep_new(alloc, files, file, source.checked, disk, &mut pieces.piece[..]),
+        Ok(()) => keep_new(
+            alloc,
+            files,
+            file,
+            source.checked,
+            disk,
+            &mut pieces.piece[..],
+        ),
         Err(why) => {
             files.remove_made(file, disk);
             Err(why)

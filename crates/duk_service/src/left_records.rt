@@ -180,11 +180,7 @@ fn is_front(version: Version, first: &[u8]) -> bool
 }
 
 /// The same of a disk of so many records, of which the first is such as the layout begins with.
-fn look_at_records<D: Disk>(
-    disk: &mut D,
-    layout: Layout,
-    records: u64,
-) -> Result<Seen, StoreFault>
+fn look_at_records<D: Disk>(disk: &mut D, layout: Layout, records: u64) -> Result<Seen, StoreFault>
     requires some { 1 ≤ records }
     requires front { (D.meaning.state_of disk.old).honest
         → HasFront layout (D.meaning.state_of disk.old).reads }
@@ -248,11 +244,7 @@ fn count_kept<D: Disk>(disk: &mut D, layout: Layout, below: u64) -> Result<u64, 
 }
 
 /// How many records that at a place says to follow. A header says that none does.
-fn read_followers<D: Disk>(
-    disk: &mut D,
-    layout: Layout,
-    place: u64,
-) -> Result<u16, StoreFault>
+fn read_followers<D: Disk>(disk: &mut D, layout: Layout, place: u64) -> Result<u16, StoreFault>
     requires inside { record_length layout * (place + 1) ≤ (D.meaning.state_of disk.old).size }
     requires fits { (D.meaning.state_of disk.old).size < 2 ^ 64 }
     ensures read { IfOk result (AreFollowersRead layout place (D.meaning.state_of disk.new)) }

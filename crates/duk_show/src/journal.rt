@@ -154,12 +154,7 @@ fn take_entry(
 
 /// The contents of a record that stands where so many of a group are to come: none, where the record
 /// is open inside a group, or says there that others follow.
-fn next_contents(
-    stored: Stored<'_>,
-    place: usize,
-    left: u16,
-    bytes: &[u8],
-) -> Option<(u16, Entry)>
+fn next_contents(stored: Stored<'_>, place: usize, left: u16, bytes: &[u8]) -> Option<(u16, Entry)>
     requires whole { length bytes.now ≡ 32 }
     requires place { place < 2 ^ 63 }
     requires first { left ≡ 0 → IsOpen bytes.now }

@@ -24,12 +24,15 @@ returns-then-is_err-2-clause-failed g c =
       nature = c.read_at.ensures.nature;
       bytes = c.read_at.ensures.bytes;
       new_nature = keeps_none (g.E.Disk.meaning.state_of c.args.new.now);
-      cause = λ h. (none.0, none.1,
-          λ followers entry has.
-          none.2 followers entry
-          (subst (λ (r : List ℕ). HasContents (format_of c.args.version) from.identity (from.place + none.0) followers entry r)
-          (sym (read_there old from.place c.args.count c.args.records.now c.read_at.new.bytes c.requires.whole
-          (where_ok _ c.read_at.result (sym c.if-is_err.ensures.value) c.read_at.ensures.read h) none.0 none.1)) has));
+      cause = λ h. (
+        none.0,
+        none.1,
+        λ followers entry has.
+            none.2 followers entry
+            (subst (λ (r : List ℕ). HasContents (format_of c.args.version) from.identity (from.place + none.0) followers entry r)
+            (sym (read_there old from.place c.args.count c.args.records.now c.read_at.new.bytes c.requires.whole
+            (where_ok _ c.read_at.result (sym c.if-is_err.ensures.value) c.read_at.ensures.read h) none.0 none.1)) has),
+      );
     }
 
 pub returns-in-Ok-clause-copied : goal.returns-in-Ok-clause-copied
@@ -46,11 +49,14 @@ returns-in-Ok-clause-copied g c =
       };
       nature = c.write_at.ensures.nature;
       no_failure = c.in-Ok.ensures.no_failure;
-      copied = λ k. (records, c.convert_records.ensures.length ∙ c.read_at.ensures.length ∙ c.requires.whole,
-          λ h place less.
-          subst (λ (r : List ℕ). IsConverted c.args.version (spot_behind from place) (spot_behind c.args.to place) r (record_at place records))
-          (read_there old from.place c.args.count c.args.records.now c.read_at.new.bytes c.requires.whole
-          (where_ok _ c.read_at.result (sym c.if-is_err.ensures.value) c.read_at.ensures.read h) place less)
-          (converted.each place less),
-          c.in-Ok.ensures.written k);
+      copied = λ k. (
+        records,
+        c.convert_records.ensures.length ∙ c.read_at.ensures.length ∙ c.requires.whole,
+        λ h place less.
+            subst (λ (r : List ℕ). IsConverted c.args.version (spot_behind from place) (spot_behind c.args.to place) r (record_at place records))
+            (read_there old from.place c.args.count c.args.records.now c.read_at.new.bytes c.requires.whole
+            (where_ok _ c.read_at.result (sym c.if-is_err.ensures.value) c.read_at.ensures.read h) place less)
+            (converted.each place less),
+        c.in-Ok.ensures.written k,
+      );
     }

@@ -44,10 +44,13 @@ returns-in-Ok-clause-copied g c =
           let mid_honest = copied.nature.honest.0 front_honest in
           let got = copied.copied front_honest in
           let many : length got.0 ≡ 32 * count = got.1 ∙ omega arith in
-          let long : length new.reads ≡ new.size = g.E.Disk.leaves_its_size c.args.new.now k new.reads (g.E.Disk.reads_may_stay c.args.new.now k) in
-          (got.0, many, λ h place less. got.2 h place (omega (arith, less)),
-              rest_of_journal c.args.identity got.0 count new.size many c.requires.room new.reads front.reads mid.reads last.reads long (first.front k) got.3
-              (behind.written.zeros mid_honest ∙ ap (λ (n : ℕ). written mid.reads (32 * (1 + count)) (replicate (n - 32 * (1 + count)) 0)) size_is));
+          let long : length new.reads ≡ new.size = g.E.Disk.leaves_its_size c.args.new.now k new.reads (g.E.Disk.reads_may_stay c.args.new.now k) in (
+            got.0,
+            many,
+            λ h place less. got.2 h place (omega (arith, less)),
+            rest_of_journal c.args.identity got.0 count new.size many c.requires.room new.reads front.reads mid.reads last.reads long (first.front k) got.3
+                (behind.written.zeros mid_honest ∙ ap (λ (n : ℕ). written mid.reads (32 * (1 + count)) (replicate (n - 32 * (1 + count)) 0)) size_is),
+          );
       leaves = λ k. behind.leaves (copied.nature.honest.0 (first.nature.honest.0 k));
     }
 
