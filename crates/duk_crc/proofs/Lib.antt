@@ -1,1 +1,2 @@
+mod ByteTable
 mod OneByte
