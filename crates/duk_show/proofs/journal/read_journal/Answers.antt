@@ -12,6 +12,12 @@ returns-in_err-entries-clause-refused c =
 pub returns-in-Some-clause-refused : goal.returns-in-Some-clause-refused
 returns-in-Some-clause-refused c =
     let entries = c.in_ok-entries.entries.items in
-    let size : c.len-2.result ≡ length entries = omega (arith, c.len-2.ensures, c.in_ok-entries.entries.ok.0) in
+    let size : c.len.result ≡ length entries = omega (arith, c.len.ensures, c.in_ok-entries.entries.ok.0) in
     open_behind c.args.stored c.laws.ensures c.headed.ensures c.args.bytes.now c.requires entries c.in-Some.place c.in_ok-entries.ensures.groups
     (subst (λ n. IsOpenAt n c.args.stored.records.now c.in-Some.place) size c.in-Some.ensures)
+
+pub returns-then-is_empty-clause-refused : goal.returns-then-is_empty-clause-refused
+returns-then-is_empty-clause-refused c = ?
+
+pub returns-clause-journal : goal.returns-clause-journal
+returns-clause-journal c = ?
