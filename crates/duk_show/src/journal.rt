@@ -57,7 +57,7 @@ fn read_journal(alloc: Global, bytes: &[u8], stored: Stored<'_>) -> Result<Vec<E
     requires { IsStored bytes.now stored }
     ensures journal { IfOk result (λ entries. IsJournal bytes.now entries.items) }
     ensures fits { IfOk result (λ entries.
-        32 * length entries.items ≤ length stored.records.now) }
+        32 * length entries.items ≤ length stored.entry.records.now) }
     ensures refused { IfErr result (IsJournalRefused bytes.now) }
 {
     duk_journal_copy::laws::headed();
@@ -75,8 +75,8 @@ fn read_journal(alloc: Global, bytes: &[u8], stored: Stored<'_>) -> Result<Vec<E
 
 /// The entries of the groups, up to the first record in a group's place that is closed.
 fn read_groups(alloc: Global, stored: Stored<'_>) -> Result<Vec<Entry>, ShowFault>
-    ensures groups { IfOk result (λ entries. AreGroups stored entries.items) }
-    ensures refused { IfErr result (AreNoGroups stored) }
+    ensures groups { IfOk result (λ entries. AreGroups stored.entry entries.items) }
+    ensures refused { IfErr result (AreNoGroups stored.entry) }
 {
     stored.version.laws();
     let mut entries = Vec::new(alloc);
@@ -111,9 +111,9 @@ fn take_record(
     requires first { left ≡ 0 → IsOpen bytes.now }
     requires listed { AreUsedBy entries.old.items used.old }
     ensures taken { IfOk result
-        (IsRecordTaken stored left bytes.now entries.old.items entries.new.items) }
+        (IsRecordTaken stored.entry left bytes.now entries.old.items entries.new.items) }
     ensures listed { IfOk result (λ _. AreUsedBy entries.new.items used.new) }
-    ensures refused { IfErr result (IsRecordNotTaken stored left bytes.now entries.old.items) }
+    ensures refused { IfErr result (IsRecordNotTaken stored.entry left bytes.now entries.old.items) }
 {
     stored.version.laws();
     let place = entries.len();
@@ -158,8 +158,8 @@ fn next_contents(stored: Stored<'_>, place: usize, left: u16, bytes: &[u8]) -> O
     requires whole { length bytes.now ≡ 32 }
     requires place { place < 2 ^ 63 }
     requires first { left ≡ 0 → IsOpen bytes.now }
-    ensures { MatchOption result (IsNoneNext stored place left bytes.now) (λ found.
-        IsNextIn stored place left found.0 found.1 bytes.now) }
+    ensures { MatchOption result (IsNoneNext stored.entry place left bytes.now) (λ found.
+        IsNextIn stored.entry place left found.0 found.1 bytes.now) }
 {
     let Some((followers, entry)) = stored.contents_at(place, bytes) else {
         return None;
@@ -198,7 +198,7 @@ fn lines_of_journal(
 ) -> Result<Vec<u8>, ShowFault>
     requires fits { 32 * length entries.now ≤ length stored.records.now }
     requires stand { All (λ entry. MayStandUnder entry.number entry.decided) entries.now }
-    ensures lines { IfOk result (λ text. text.items ≡ stored_lines stored entries.now) }
+    ensures lines { IfOk result (λ text. text.items ≡ stored_lines stored.entry entries.now) }
     ensures refused { IfErr result (λ why. why ≡ OutOfMemory) }
 {
     let mut text = Vec::new(alloc);
@@ -211,7 +211,7 @@ fn lines_of_journal(
 
 /// The lines of a header, where there is one.
 fn lines_of_header(stored: Stored<'_>) -> Lines
-    ensures { result.items ≡ header_lines stored }
+    ensures { result.items ≡ header_lines stored.entry }
 {
     let mut lines = Lines::new();
     if stored.version == Version::Two {

@@ -44,9 +44,9 @@ impl<'a> Stored<'a> {
         requires whole { length bytes.now ≡ 32 }
         requires place { place < 2 ^ 63 }
         ensures found { IfSome result (λ found.
-            HasContents self place found.0 found.1 bytes.now) }
+            HasContents self.entry place found.0 found.1 bytes.now) }
         ensures every { (followers : ℕ) (entry : EntryValue)
-            → HasContents self place followers entry bytes.now
+            → HasContents self.entry place followers entry bytes.now
             → result ≡ Some (followers, entry) }
     {
         let place = self.version.headers() + place as u64;
