@@ -335,8 +335,8 @@ def copy(image: bytes, new: str) -> int:
 def main(way: str, table: str) -> int:
     if sys.argv[1] != "serve":
         image = Path(sys.argv[3 if sys.argv[1] == "show" else 2]).read_bytes()
-        plain = plain_by(Way(way), image)
-        read = image if plain is None else checked(plain, identity_by(Way(way), image) or 0)
+        identity, plain = identity_by(Way(way), image), plain_by(Way(way), image)
+        read = image if identity is None else checked(plain, identity) if plain is not None else b""
         return show(read) if sys.argv[1] == "show" else copy(read, sys.argv[3])
     answers = read_table(table)
     try:
