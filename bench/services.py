@@ -3,7 +3,7 @@ a journal, the service of bench/openssl over a journal, and that of an earlier p
 
 Each round makes a new log or journal for each service, and takes them in turn. What counts is the time
 of the whole process by the clock, and its processor time. All have to give the same answers, and all
-journals the same bytes.
+journals the same entries.
 
 Then the journal is paired with each other service over a file. Each request goes to both, and waits for
 its reply: what counts is the median time from the one to the other. The two are taken to and fro
@@ -25,6 +25,7 @@ from timing import ROOT
 
 sys.path.insert(0, ROOT)
 
+from tests.support.formats.checked_journal import plain_of  # noqa: E402
 from tests.support.formats.journal_file import records_for  # noqa: E402
 
 # The bytes of each request, of the reply to it, and of a record of a log.
@@ -90,11 +91,11 @@ def services(
             it.flush()
             os.fsync(it.fileno())
 
-    def maker(path: str) -> Callable[[int], None]:
+    def maker(path: str, program: str = dukpt) -> Callable[[int], None]:
         def make_journal(count: int) -> None:
             Path(path).unlink(missing_ok=True)
             # The last part of a journal's room takes no payment.
-            subprocess.run([dukpt, "new-journal", path, str(records_for(count))], check=True)
+            subprocess.run([program, "new-journal", path, str(records_for(count))], check=True)
 
         return make_journal
 
@@ -104,7 +105,8 @@ def services(
         Service("log in a file", (*serve, "--log", log), log, make_log),
         Service(JOURNAL, (*serve, "--journal", journal), journal, maker(journal), True),
         Service("C over a journal", (peer, "serve", other), other, maker(other), True),
-        *([Service("journal, before", (before, "serve", config, "--journal", old), old, maker(old), True)]
+        *([Service("journal, before", (before, "serve", config, "--journal", old), old, maker(old, before),
+                   True)]
           if before else []),
     ]
 
@@ -178,12 +180,19 @@ def show_services(
             whole[place].append(serve_file(it, requests, answers))
             same_answers.add(Path(answers).read_bytes())
             if it.is_journal:
-                same_journals.add(Path(it.store).read_bytes())
+                same_journals.add(entries_of(it.store))
         if len(same_answers) != 1 or len(same_journals) != 1:
             sys.exit("services: the answers or the journals differ")
         for pair in pairs:
             pair.compare(some)
     show(found, whole, pairs)
+
+
+def entries_of(journal: str) -> bytes:
+    """What a journal says, without what differs between files: their identities and check sums."""
+    image = Path(journal).read_bytes()
+    plain = plain_of(image)
+    return image if plain is None else plain
 
 
 def pairs_of(found: Sequence[Service]) -> list[Pair]:

@@ -17,9 +17,11 @@ struct numbers *new_numbers(size_t room);
 const struct payment *payment_with(const struct numbers *numbers, const uint8_t ksn[SERIAL]);
 void add_payment(struct numbers *numbers, const struct payment *payment);
 
-/* journal.c: a file of payments, which ends the program where it is none or a call over it fails. */
+/* journal.c: a file of payments, which ends the program where it is none or a call over it fails. It has
+   room for so many payments behind its header, and keeps so many. */
 struct journal {
     int file;
+    uint8_t identity[8];
     size_t room, kept;
 };
 struct journal open_journal(const char *path, struct numbers **numbers);

@@ -13,11 +13,11 @@ import time
 from collections import Counter
 from concurrent.futures import ThreadPoolExecutor
 from pathlib import Path
-from typing import Optional, Sequence
+from typing import Iterator, Optional, Sequence
 
 from ..support.formats.checked_journal import HEADER, checked, identity_of, journal_of, plain_of
 from ..support.formats.journal_file import DamagedJournal, payments_in
-from ..support.formats.journal_records import RECORD
+from ..support.formats.journal_records import RECORD, Group
 from ..support.models.model_journal import payments_of_all
 from ..support.program import SECONDS, Ended, Word
 from ..support.service.client import payments
@@ -26,7 +26,7 @@ from ..support.system.small_files import PAGE, SmallFiles
 from ..support.system.traced_files import (
     OPENS, READS, REMOVES, SYNCS, WRITES, Call, assert_kept, covered, places, traced)
 from ..support.system.unsynced import unsynced_of
-from .test_copy_journals import CANNOT_MAKE, CopyCase, copied, is_kept
+from .test_copy_journals import CANNOT_MAKE, CopyCase, copied, entries_of_either, is_kept
 
 OLD, NEW, FOLDER = "journal", "sub/copy", "sub"
 # So many records are a piece of a copy, of 64 KiB.
@@ -41,6 +41,15 @@ class CallCase(CopyCase):
         self.made = self.home / FOLDER
         os.mkdir(self.made)
 
+    def of_both(self, room: int, groups: Sequence[Group]) -> Iterator[bytes]:
+        """A journal of version 2, and then the same one of version 1."""
+        image = self.make_journal(room, groups)
+        yield image
+        plain = plain_of(image)
+        assert plain is not None
+        self.journal.write_bytes(plain)
+        yield plain
+
     def traced(self, *changes: str, new: Word = NEW) -> tuple[Ended, list[Call]]:
         """How a copy ends in which strace makes these changes, and its calls."""
         return traced([*self.copier, "copy-journal", OLD, new], self.home, self.folder() / "trace", OLD,
@@ -53,17 +62,17 @@ class Calls(CallCase):
     def test_calls(self) -> None:
         """Of a small journal, and of one of several pieces with zeros behind what it keeps."""
         for kept, room in ((3, 7), (0, 3), (PIECE + 52, 2 * PIECE + 100)):
-            image = self.make_journal(room, alone(payments_of_all(payments(kept))))
-            ended, calls = self.traced()
-            what = f"{kept} of {room}"
-            self.assert_output(ended, b"", "", what)
-            self.assert_order(calls, len(image), range(1), what)
-            self.assert_bytes(image, what)
-            made = (self.made / "copy").read_bytes()
-            self.assertEqual(made, copied(image, made), what)
-            (self.made / "copy").unlink()
+            for image in self.of_both(room, alone(payments_of_all(payments(kept)))):
+                ended, calls = self.traced()
+                what = f"{kept} of {room}, {len(image)} bytes"
+                self.assert_output(ended, b"", "", what)
+                made = (self.made / "copy").read_bytes()
+                self.assertEqual(made, copied(image, made), what)
+                self.assert_order(calls, len(image), len(made), range(1), what)
+                self.assert_bytes(image, what)
+                (self.made / "copy").unlink()
 
-    def assert_order(self, calls: Sequence[Call], size: int, but: range, what: str) -> None:
+    def assert_order(self, calls: Sequence[Call], old: int, new: int, but: range, what: str) -> None:
         """The journal is opened, locked and read to its end before the copy is made, and never written;
         the copy is made and kept in order, and written, but that these bytes are right already. It is
         read to its end once it is written and synced, and before its folder is synced."""
@@ -76,11 +85,11 @@ class Calls(CallCase):
         self.assertLess(locked[0], read[0], what)
         self.assertIn("O_RDONLY", calls[opened[0]].words, f"{what}: the journal is opened to be written")
         self.assertIn("LOCK_EX|LOCK_NB", calls[locked[0]].words, what)
-        self.assertEqual(covered([calls[at] for at in read]), [range(size)],
+        self.assertEqual(covered([calls[at] for at in read]), [range(old)],
                          f"{what}: read before the copy is made")
         self.assertEqual(places(calls, WRITES, OLD), [], f"{what}: the journal is written")
-        assert_kept(calls, NEW, FOLDER, size, but)
-        self.assert_checked(calls, size, what)
+        assert_kept(calls, NEW, FOLDER, new, but)
+        self.assert_checked(calls, new, what)
 
     def assert_checked(self, calls: Sequence[Call], size: int, what: str) -> None:
         """All of the copy is read between the sync behind its last write and that of its folder."""
@@ -94,34 +103,36 @@ class Calls(CallCase):
         as none does, is synced before it gets its size, and again before it is written; and all of a copy
         but a last write of one byte is synced before that one."""
         for kept, room in ((3, 7), (PIECE + 52, 2 * PIECE + 100)):
-            self.make_journal(room, alone(payments_of_all(payments(kept))))
-            calls, what = self.traced()[1], f"{kept} of {room}"
-            written, synced = places(calls, WRITES, NEW), places(calls, SYNCS, NEW)
-            sized = [at for at in written if calls[at].name == "ftruncate"]
-            self.assertEqual(len(calls[written[-1]].span), 1, f"{what}: the last write")
-            for last in (*sized, written[-1]):
-                before = max((at for at in written if at < last), default=-1)
-                self.assertTrue(any(before < at < last for at in synced),
-                                f"{what}: no sync before {calls[last]} ({calls[last].count})")
-            for at, after in ((at, min(it for it in written if it > at)) for at in sized):
-                self.assertTrue(any(at < it < after for it in synced), f"{what}: no sync of its size")
-            (self.made / "copy").unlink()
+            for image in self.of_both(room, alone(payments_of_all(payments(kept)))):
+                self.assert_synced(self.traced()[1], f"{kept} of {room}, {len(image)} bytes")
+                (self.made / "copy").unlink()
+
+    def assert_synced(self, calls: Sequence[Call], what: str) -> None:
+        written, synced = places(calls, WRITES, NEW), places(calls, SYNCS, NEW)
+        sized = [at for at in written if calls[at].name == "ftruncate"]
+        self.assertEqual(len(calls[written[-1]].span), 1, f"{what}: the last write")
+        for last in (*sized, written[-1]):
+            before = max((at for at in written if at < last), default=-1)
+            self.assertTrue(any(before < at < last for at in synced),
+                            f"{what}: no sync before {calls[last]} ({calls[last].count})")
+        for at, after in ((at, min(it for it in written if it > at)) for at in sized):
+            self.assertTrue(any(at < it < after for it in synced), f"{what}: no sync of its size")
 
     def test_each_call_that_fails(self) -> None:
         """Where it fails, and each later one of its name, there is no copy, and a line says which
         file is at fault."""
-        image = self.make_journal(7, [payments_of_all(payments(3))])
-        calls = self.traced()[1]
-        (self.made / "copy").unlink()
-        for call in calls:
-            ended, changed = self.traced(f"inject={call.name}:error=EIO:when={call.count}+")
-            first = next((it for it in changed if it.is_changed), None)
-            self.assertEqual(first and (first.name, first.count, first.file),
-                             (call.name, call.count, call.file), str(call))
-            self.assert_output(ended, b"", self.fault_of(call), str(call))
-            self.assert_bytes(image, str(call))
-            self.assertEqual([*self.made.iterdir()], [], str(call))
-        self.tells(", ".join(map(str, calls)))
+        for image in self.of_both(7, [payments_of_all(payments(3))]):
+            calls = self.traced()[1]
+            (self.made / "copy").unlink()
+            for call in calls:
+                ended, changed = self.traced(f"inject={call.name}:error=EIO:when={call.count}+")
+                first = next((it for it in changed if it.is_changed), None)
+                self.assertEqual(first and (first.name, first.count, first.file),
+                                 (call.name, call.count, call.file), str(call))
+                self.assert_output(ended, b"", self.fault_of(call), str(call))
+                self.assert_bytes(image, str(call))
+                self.assertEqual([*self.made.iterdir()], [], str(call))
+            self.tells(", ".join(map(str, calls)))
 
     def fault_of(self, call: Call) -> str:
         if call.file != OLD:
@@ -268,7 +279,8 @@ class Kills(LeftCase):
         where its first gate is."""
         kept = payments_of_all(payments(5))
         for groups in (alone(kept), [kept]):
-            self.kill_in_each_call(self.make_journal(7, groups))
+            for image in self.of_both(7, groups):
+                self.kill_in_each_call(image)
 
     def test_many_pieces(self) -> None:
         """Of four pieces, and zeros behind them; the last of them has a few records."""
@@ -325,13 +337,13 @@ class Losses(LeftCase):
         written last, and for many bytes of what was written before."""
         kept, found = payments_of_all(payments(5)), Counter[str]()
         for room, groups in ((1, alone(kept[:1])), (7, [kept]), (7, alone(kept)), (2, [])):
-            image = self.make_journal(room, groups)
-            calls = self.traced()[1]
-            whole = (self.made / "copy").read_bytes()
-            (self.made / "copy").unlink()
-            for state in unsynced_of(calls, NEW, whole):
-                for left in state.left(self.chance):
-                    found[self.judge_lost(left, image, f"{len(groups)} groups: {state}")] += 1
+            for image in self.of_both(room, groups):
+                calls = self.traced()[1]
+                whole = (self.made / "copy").read_bytes()
+                (self.made / "copy").unlink()
+                for state in unsynced_of(calls, NEW, whole):
+                    for left in state.left(self.chance):
+                        found[self.judge_lost(left, image, f"{len(groups)} groups: {state}")] += 1
         self.assertEqual(set(found), {"refused", "whole"})
         self.tells(", ".join(f"{count} {it}" for it, count in found.items()))
 
@@ -346,7 +358,7 @@ class Losses(LeftCase):
             self.given += 1
             self.assertTrue(self.is_refused(words), f"{what}: taken by {words[0]}: {left.hex()}")
             return "refused"
-        self.assertEqual(kept, payments_in(image), f"{what}: another journal: {left.hex()}")
+        self.assertEqual(kept, entries_of_either(image), f"{what}: another journal: {left.hex()}")
         return "whole"
 
 

@@ -5,6 +5,7 @@ from __future__ import annotations
 import itertools
 import os
 
+from ..support.formats.checked_journal import blank
 from ..support.formats.journal_file import groups_in, records_for
 from ..support.models.model_journal import MOST_FRAMES, READ, answers_of, judged, payments_of_all
 from ..support.service.client import Exchange, payments, refusal, refused_requests
@@ -50,7 +51,7 @@ class EndOfInput(JournalCase):
         self.addCleanup(os.close, folder)
         self.make_room(2)
         self.check(ON_JOURNAL, (), b"", READ_FAILED, how=How(given=folder))
-        self.assert_bytes(bytes(64), "nothing was read")
+        self.assert_bytes(blank(records_for(2)), "nothing was read")
 
 
 class Pieces(JournalCase):

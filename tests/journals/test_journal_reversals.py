@@ -5,6 +5,7 @@ from __future__ import annotations
 from itertools import permutations
 from typing import Sequence
 
+from ..support.formats.checked_journal import blank, checked
 from ..support.formats.frames import write_reply, write_request
 from ..support.formats.journal_file import most_payments
 from ..support.formats.journal_records import NONE_STANDS, UNDONE, Reversal
@@ -58,10 +59,10 @@ class Rows(ReversalCase):
         records = bytes.fromhex(
             "01010001" "FFFF9876543210E00001" "00000001" "00" "A05619896B683F13" "0000000000"
             "00020000" "FFFF9876543210E00002" "00000001" "81" "3B8EA61D9F5F532F" "0000000000")
-        self.assert_bytes(records + bytes(64), "a payment that was undone")
+        self.assert_bytes(checked(records + bytes(64)), "a payment that was undone")
         refused = bytes.fromhex("000D0103FFFF9876543210E0000105")
         self.check(ON_JOURNAL, [REVERSAL_BY_HAND + PAYMENT_BY_HAND], UNDONE_BY_HAND + refused)
-        self.assert_bytes(records + bytes(64), "both once more")
+        self.assert_bytes(checked(records + bytes(64)), "both once more")
 
     def test_before_its_payment(self) -> None:
         """The same in exact bytes where the payment comes late."""
@@ -70,9 +71,9 @@ class Rows(ReversalCase):
         self.check(ON_JOURNAL, [REVERSAL_BY_HAND + PAYMENT_BY_HAND], NONE_BY_HAND + refused)
         record = bytes.fromhex(
             "01020000" "FFFF9876543210E00002" "00000001" "80" "3B8EA61D9F5F532F" "0000000000")
-        self.assert_bytes(record + bytes(96), "a number that none has")
+        self.assert_bytes(checked(record + bytes(96)), "a number that none has")
         self.check(ON_JOURNAL, [PAYMENT_BY_HAND + REVERSAL_BY_HAND], refused + NONE_BY_HAND)
-        self.assert_bytes(record + bytes(96), "both once more")
+        self.assert_bytes(checked(record + bytes(96)), "both once more")
 
     def test_states(self) -> None:
         """An approved payment is undone; of a declined one, of a number that none has and of that of a
@@ -101,7 +102,7 @@ class Rows(ReversalCase):
         self.make_journal(3)
         self.check_file(refused, what="in one group")
         self.check_packets([[it] for it in refused], what="one by one")
-        self.assert_bytes(bytes(96), "what is refused")
+        self.assert_bytes(blank(3), "what is refused")
         mixed = [it for at, one in enumerate(refused) for it in (one, paid[at % 3])]
         self.check_file([*mixed, *refused], what="among payments")
         self.assertEqual(self.kept(), payments_of_all(paid))

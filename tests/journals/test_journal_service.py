@@ -2,6 +2,7 @@
 from __future__ import annotations
 
 from ..commands.test_files import REFUSED_FILES
+from ..support.formats.checked_journal import blank, checked
 from ..support.formats.journal_records import Payment
 from ..support.models.model_journal import added_by, answers_of, judged, payment_of, payments_of_all
 from ..support.service.client import (
@@ -39,9 +40,9 @@ class Rows(JournalCase):
         self.check(ON_JOURNAL, [request], reply)
         record = bytes.fromhex(
             "01010000" "FFFF9876543210E00001" "00000001" "00" "A05619896B683F13" "0000000000")
-        self.assert_bytes(record + bytes(64), "a payment")
+        self.assert_bytes(checked(record + bytes(64)), "a payment")
         self.check(ON_JOURNAL, [request + request], reply + reply, what="another run")
-        self.assert_bytes(record + bytes(64), "a payment that came again")
+        self.assert_bytes(checked(record + bytes(64)), "a payment that came again")
 
     def test_nothing(self) -> None:
         """No request, and none that is accepted, change nothing."""
@@ -49,7 +50,7 @@ class Rows(JournalCase):
         self.check_file([], what="no frame")
         refused = [it for it in self.mixed(200) if it.number is None]
         self.check_file(refused, what="refused frames alone")
-        self.assert_bytes(bytes(64), "no payment")
+        self.assert_bytes(blank(2), "no payment")
 
     def test_a_full_journal(self) -> None:
         """A new number is refused with reason 6, one that is kept is answered again; so is it in the
@@ -160,7 +161,7 @@ class Options(JournalCase):
         ended = self.program.run(*words, given=payments(1)[0].frame, folder=self.home)
         self.assertEqual((ended.status, ended.output), (2, b""), words)
         self.assertNotEqual(ended.faults, b"", words)
-        self.assert_bytes(bytes(96), " ".join(words))
+        self.assert_bytes(blank(3), " ".join(words))
 
     def test_a_wrong_configuration(self) -> None:
         """It is reported before the journal is opened."""
@@ -202,7 +203,7 @@ class Lives(JournalCase):
             self.make_journal(3)
             self.check_file([one, two, one], what="in one group")
             self.check_file([two, one, two], what="in the next run")
-            self.assert_bytes(payment_of(one).record(1) + bytes(64), "two requests of a number")
+            self.assert_bytes(checked(payment_of(one).record(1) + bytes(64)), "two requests of a number")
 
     def test_far_repeats(self) -> None:
         """A request behind thousands of others is answered again, in this run and in the next."""

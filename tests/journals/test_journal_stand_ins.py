@@ -2,14 +2,17 @@
 from __future__ import annotations
 
 from enum import Enum
+from typing import Sequence
 
 from ..service.test_service_stand_ins import InLives, StandInCase
 from ..support.formats.checked_journal import blank
 from ..support.service.client import PAN, PIN, Purchase, payments, payments_of, refused_requests
 from ..support.service.journal_lives import ALL, ROOM, JournalLives
 from ..support.service.journal_stand_in import Way
+from ..support.service.service_case import ServiceCase
 from ..support.system.cut_file import CutFile
 from .test_journal_calls import Calls
+from .test_journal_changes import SIZES, Copied, Served, Shown
 from .test_journal_failures import FailedCalls, FullFileSystem
 from .test_journal_files import Damaged, Right
 from .test_journal_input import EndOfInput, Groups
@@ -44,6 +47,13 @@ BY_TESTS = (
     (Silent, "test_a_part_of_a_read", (Way.GIVES_UP,)),
     (Torn, "test_a_few", (Way.GATE_FIRST, Way.ONE_WRITE, Way.BODIES_UNSYNCED)),
 )
+# What is found by changes of bytes on the disk, each by a service, `show` and `copy-journal`.
+BY_CHANGES = (
+    ("test_each_byte", (Way.NO_CHECK_SUMS,)),
+    ("test_moved", (Way.NO_CHECK_SUMS, Way.ANY_PLACE, Way.ANY_JOURNAL)),
+    ("test_lost_gates", (Way.ANY_GATE,)),
+    ("test_torn", (Way.TORN_IS_DAMAGE,)),
+)
 
 
 class StandIns(InLives, StandInCase):
@@ -68,3 +78,30 @@ class StandIns(InLives, StandInCase):
             for way in ways:
                 self.assertIn("AssertionError", self.faults(way, case, test),
                               f"{case.__name__}.{test}: {way.value}")
+
+
+class Changed(StandInCase):
+    """Stand-ins over journals whose bytes were changed."""
+
+    module, right, cases = "tests.support.service.journal_stand_in", Way.RIGHT, 24
+
+    def setUp(self) -> None:
+        super().setUp()
+        self.write_table(payments(sum(SIZES) + 2))
+
+    def judge(self, case: type[ServiceCase], test: str, ways: Sequence[Way]) -> None:
+        self.assertEqual(self.faults(Way.RIGHT, case, test), "", f"{case.__name__}.{test}")
+        for way in ways:
+            self.assertIn("AssertionError", self.faults(way, case, test), f"{case.__name__}.{test}: {way.value}")
+
+    def test_served(self) -> None:
+        for test, ways in (*BY_CHANGES, ("test_the_version", (Way.ANY_HEADER,))):
+            self.judge(Served, test, ways)
+
+    def test_shown(self) -> None:
+        for test, ways in BY_CHANGES:
+            self.judge(Shown, test, ways)
+
+    def test_copied(self) -> None:
+        for test, ways in BY_CHANGES:
+            self.judge(Copied, test, ways)

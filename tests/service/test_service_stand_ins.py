@@ -50,6 +50,7 @@ class StandInCase(Case):
     right: ClassVar[Enum]
     by_lives: ClassVar[Sequence[Enum]]
     most: ClassVar[int]
+    cases: ClassVar[int] = CASES
 
     def setUp(self) -> None:
         super().setUp()
@@ -74,7 +75,7 @@ class StandInCase(Case):
         """What a test tells of a stand-in."""
         tried, result = case(test), unittest.TestResult()
         tried.program = self.stand_in(way)
-        setattr(tried, "cases", CASES)
+        setattr(tried, "cases", self.cases)
         tried.run(result)
         return "\n".join(text for _, text in result.failures + result.errors)
 

@@ -1,4 +1,5 @@
-"""A stand-in for the service over a journal: it keeps payments in the right way or in a wrong one.
+"""A stand-in for the service over a journal: it keeps payments in the right way or in a wrong one. It stands
+in for `show journal` and `copy-journal` too, which read a journal in that way.
 
 Its answers stand in a table, as those of `stand_in`. It shows that the tests of journals find each
 of the wrong ways, and nothing in the right one.
@@ -10,10 +11,13 @@ import os
 import select
 import sys
 from enum import Enum
-from typing import Optional
+from pathlib import Path
+from typing import Iterator, Optional
 
-from ..formats.checked_journal import HEADER, identity_of, plain_of, with_check_sums
-from ..formats.left_files import JOURNAL, look
+from ..commands.shown import journal_ended
+from ..formats.checked_journal import CHECK, HEADER, checked, identity_of, journal_of, with_check_sums
+from ..formats.left_files import JOURNAL, OLD_JOURNAL, look
+from ..formats.opened_journal import Refusal, copied
 from .stand_in import Table, read_table
 
 RECORD = 32
@@ -47,9 +51,62 @@ class Way(Enum):
     LEAVES_OUT = "what finds no room is left out"
     LOSES_THE_LAST = "a start forgets the last payment of a group"
     LOOKS_AT_NOTHING = "a start takes damaged records as they are"
+    NO_CHECK_SUMS = "a start looks at no check sum"
+    ANY_PLACE = "a check sum is taken at any place"
+    ANY_JOURNAL = "a check sum of any journal is taken"
+    ANY_HEADER = "a header is not looked at"
+    ANY_GATE = "a start looks no further than the first gate that is closed"
+    TORN_IS_DAMAGE = "any bytes behind the groups are damage"
     NEVER_WAITS = "it reads on where its output is full"
     GIVES_UP = "it ends where its input is silent for a moment"
     NO_LOCK = "the journal is not locked"
+
+
+class OldVersion(Exception):
+    """That a journal of version 1 left the file."""
+
+
+def identity_by(way: Way, image: bytes) -> Optional[int]:
+    identity = identity_of(image)
+    return int.from_bytes(image[16:24], "big") if identity is None and way is Way.ANY_HEADER else identity
+
+
+def plain_by(way: Way, image: bytes) -> Optional[bytes]:
+    """The records of a journal, with zeros for their check sums where these are taken as right."""
+    identity = identity_by(way, image)
+    if identity is None:
+        return None
+    records, plain = records_of(image[HEADER:]), records_of(with_check_sums(image[HEADER:], identity))
+    for at, record in enumerate(records):
+        if way is Way.NO_CHECK_SUMS or any(
+                not any(with_check_sums(record, other, place)[CHECK])
+                for other, place in places_by(way, identity, at, len(records))):
+            plain[at] = record[: CHECK.start] + bytes(4) + record[CHECK.stop :]
+    end = end_of(plain)
+    if way is Way.ANY_GATE:
+        plain[end:] = [bytes(RECORD)] * len(plain[end:])
+    is_torn = any(any(it) for it in plain[end:])
+    return None if is_torn and way is Way.TORN_IS_DAMAGE else b"".join(plain)
+
+
+def places_by(way: Way, identity: int, at: int, count: int) -> Iterator[tuple[int, int]]:
+    """Other identities and places by which a check sum of this record is taken too."""
+    if way is Way.ANY_PLACE:
+        yield from ((identity, 1 + place) for place in range(count))
+    if way is Way.ANY_JOURNAL:
+        yield from ((identity ^ 1 << bit, 1 + at) for bit in range(64))
+
+
+def records_of(data: bytes) -> list[bytes]:
+    return [data[at : at + RECORD] for at in range(0, len(data), RECORD)]
+
+
+def end_of(records: list[bytes]) -> int:
+    """How many records stand in groups, which begin with the first."""
+    end = 0
+    while end < len(records) and records[end][0] == 1:
+        end += 1 + int.from_bytes(records[end][2:4], "big")
+    return min(end, len(records))
 
 
 class Journal:
@@ -86,12 +143,14 @@ class Journal:
         held = self.read(0, min(HEADER, self.size))
         while len(held) < self.size:
             held += self.read(len(held), min(AHEAD, self.size - len(held)))
-        self.identity, plain = identity_of(held) or 0, plain_of(held)
+        self.identity, plain = identity_by(self.way, held) or 0, plain_by(self.way, held)
+        if plain is None and OLD_JOURNAL.is_left(held):
+            raise OldVersion
         if self.way is Way.LOOKS_AT_NOTHING and plain is None:
             plain = b""
         if plain is None or self.way is not Way.LOOKS_AT_NOTHING and self.size % RECORD:
             raise OSError("no journal")
-        records = [plain[at : at + RECORD] for at in range(0, len(plain), RECORD)]
+        records = records_of(plain)
         # What a wrong way left is to be found by others.
         if self.way is Way.RIGHT and not JOURNAL.is_left(held):
             raise OSError("no journal")
@@ -257,10 +316,33 @@ def serve(host: Host) -> Optional[bytes]:
     return b"serve: input ends in a frame\n" if stream else None
 
 
+def show(image: bytes) -> int:
+    ended = journal_ended(image)
+    os.write(1, ended.output)
+    os.write(2, ended.faults)
+    return ended.status
+
+
+def copy(image: bytes, new: str) -> int:
+    entries = copied(image)
+    if isinstance(entries, Refusal):
+        os.write(2, b"journal: failed\n")
+        return 1
+    Path(new).write_bytes(journal_of([[it] for it in entries], 0))
+    return 0
+
+
 def main(way: str, table: str) -> int:
+    if sys.argv[1] != "serve":
+        image = Path(sys.argv[3 if sys.argv[1] == "show" else 2]).read_bytes()
+        identity, plain = identity_by(Way(way), image), plain_by(Way(way), image)
+        read = image if identity is None else checked(plain, identity) if plain is not None else b""
+        return show(read) if sys.argv[1] == "show" else copy(read, sys.argv[3])
     answers = read_table(table)
     try:
         fault = serve(Host(Journal(sys.argv[4], Way(way)), answers))
+    except OldVersion:
+        fault = b"journal: version 1, use copy-journal\n"
     except OSError:
         fault = b"journal: failed\n"
     if fault:
