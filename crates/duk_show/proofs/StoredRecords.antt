@@ -1,5 +1,5 @@
 -- The records behind a header, and what the bytes of a journal keep in them.
-use Rattle.std.proofs.Common.{◌≡◌, ◌≢◌, ◌∙◌, ◌+◌, ◌-◌, ◌*◌, ◌/◌, ◌%◌, ◌<◌, ◌≤◌, ◌∷◌, [], ℕ, zero, suc, List, None, Option, Some, ap, arith, drop, length, length-drop, refl, subst, sym, take}
+use Rattle.std.proofs.Common.{◌≡◌, ◌≢◌, ◌∙◌, ◌+◌, ◌-◌, ◌*◌, ◌/◌, ◌%◌, ◌≤◌, ◌∷◌, [], ℕ, zero, suc, List, None, Option, Some, ap, arith, drop, length, length-drop, refl, subst, sym, take}
 use Rattle.std.proofs.lemmas.List.{drop-drop}
 use Rattle.std.specs.Prelude.{IfSome}
 use Rattle.duk_journal.specs.CheckedFormat.{checked_format}
@@ -14,7 +14,7 @@ use Rattle.duk_journal_copy.specs.declared.version.Version.TheVariants.{One, Two
 use Rattle.duk_store.specs.Format.{FormatMeaning}
 use Rattle.duk_store.specs.Records as records
 use Rattle.duk_show.specs.Journal.{IsCutRecord, IsJournal}
-use Rattle.duk_show.specs.Stored.{HasContents, HasHeader, IsStored, IsStoredOne, IsStoredTwo, stored_record}
+use Rattle.duk_show.specs.Stored.{HasContents, IsStored, IsStoredOne, IsStoredTwo, stored_record}
 use Rattle.duk_show.specs.declared.stored.Stored.{Stored}
 
 -- all records behind the header are closed from this place on

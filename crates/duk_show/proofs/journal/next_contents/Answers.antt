@@ -1,4 +1,4 @@
-use Rattle.std.proofs.Common.{◌≡◌, ◌≤◌, inl, inr, ◌∙◌, arith}
+use Rattle.std.proofs.Common.{◌≤◌, inl, inr, ◌∙◌, arith}
 use Rattle.duk_show.proofs.StoredRecords.{same_followers}
 use Rattle.duk_show.proofs.journal.next_contents.Goals as goal
 

@@ -1,6 +1,5 @@
-use Rattle.std.proofs.Common.{◌≡◌, ◌∙◌, ◌+◌, ℕ, List, ap, arith, length, refl}
+use Rattle.std.proofs.Common.{◌≡◌, ◌+◌, arith, length}
 use Rattle.std.proofs.lemmas.Slice.{between_to_end}
-use Rattle.duk_journal.specs.RecordFormat.{after_gate}
 use Rattle.duk_journal_copy.specs.Version.{format_of}
 use Rattle.duk_show.proofs.StoredRecords.{every_there, few_headers, found_there}
 use Rattle.duk_show.proofs.stored.Stored.contents_at.Goals as goal
