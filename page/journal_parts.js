@@ -1,6 +1,7 @@
 // The records of a journal, as version 1 has them: the first byte that breaks a rule, and the entries,
-// which are payments and reversals (docs/FORMATS.md, "Version 1 of a journal"). A check answers with words, the first and the last byte, or
-// with nothing. The first byte stands in the record at which `show journal` refuses the file.
+// which are payments and reversals (docs/FORMATS.md, "Version 1 of a journal"). A check answers with words,
+// the first and the last byte, or with nothing. The first byte stands in the record at which
+// `show journal` refuses the file.
 import { SPENT, counterOf, isUsable, withCounter } from "./counters.js";
 import { CODES, STATES } from "./frame_parts.js";
 import { exact, firstRepeat, numbersAt } from "./numbers.js";

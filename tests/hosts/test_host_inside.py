@@ -1,6 +1,6 @@
 """`dukpt-host` in its own process: what is wiped, a client that comes as the host is told to end, one that
 reads nothing, which addresses others reach, a connection to the database that ends as soon as it is open,
-and places of it that are silent."""
+places of it that are silent, and pieces that break."""
 from __future__ import annotations
 
 import os
@@ -66,6 +66,19 @@ class Inside(Case):
         """A fault of the watch that nobody foresaw has nothing served, until the database is seen again."""
         self.assertEqual(self.found("watched"), [
             "serving; the database does not answer: 'unforeseen'; serving"])
+
+    def test_broken(self) -> None:
+        """Where a piece meets a fault that nobody foresaw, a connection ends or the host does, and the fault is
+        told. What was answered is answered once, and what was read before is still answered, but for a group
+        of which nobody knows what came. A line that finds no room is no fault."""
+        ends = "3 of 3; by itself, fault unforeseen"
+        wanted = [
+            "settle: ['0 of 3', '3 of 3'], 3 settled, 1 lost, 1 unknown; told to, status 0; "
+            "['what came of a group is not known: unforeseen']",
+            *(f"{it}: {ends}" for it in ("line", "count", "beat", "door")),
+            "frames: ['0 of 3', '3 of 3']; told to, status 0; ['unforeseen']",
+            "full: 3 of 3; told to, status 0"]
+        self.assertEqual(self.found("broken"), [it for it in wanted for _ in range(2)])
 
     def test_places(self) -> None:
         """A place that is silent holds up no other one, and each connection that is not taken is ended."""

@@ -7,12 +7,13 @@ from dataclasses import replace
 from typing import Sequence
 
 from ..support.commands.shown import journal_ended
-from ..support.formats.checked_journal import HEADER, behind_header, checked
+from ..support.formats.checked_journal import HEADER, behind_header, checked, plain_of
 from ..support.formats.journal_records import (
     BY_HAND, BY_HAND_ROWS, BY_HAND_SUMS, DAMAGES, OPEN, RECORD, REVERSAL_DAMAGES, REVERSED_BY_HAND,
     REVERSED_BY_HAND_ROWS, REVERSED_BY_HAND_SUMS, UNDONE, Group, Payment, Place, Reversal, Row,
     journal_of, put, read_shown, rows_in, rows_of, scratched, sums_of, totals_of, used_again,
     without_repeats)
+from ..support.formats.opened_journal import is_found
 from ..support.page.page_file_case import MOST_ROWS, FileCase, Seen
 from ..support.standards.dukpt import usable
 
@@ -42,14 +43,20 @@ class JournalCase(FileCase):
         self.assert_words(found.words, rows, room)
 
     def assert_read(self, found: Seen, data: bytes) -> bool:
-        """That a journal is shown whole, or is refused at the right place; whether it is right."""
-        wanted = read_shown(data)
-        if isinstance(wanted, Place):
+        """That a journal of either version is shown whole, or is refused at the right place; whether it is
+        right."""
+        plain = plain_of(data)
+        records = data if plain is None else plain
+        wanted = read_shown(records)
+        if isinstance(wanted, Place) and plain is None:
             self.assert_refused(found, wanted, data)
-            return False
-        self.assert_right(found, wanted, len(data) // RECORD - len(wanted))
-        self.assertEqual(journal_ended(data).status, 0)
-        return True
+        elif isinstance(wanted, Place):
+            self.assert_damaged(found, behind_header(wanted))
+            self.assertEqual(journal_ended(data).status, 1)
+        else:
+            self.assert_right(found, wanted, len(records) // RECORD - len(wanted))
+            self.assertEqual(journal_ended(data).status, 0)
+        return not isinstance(wanted, Place)
 
     def assert_refused(self, found: Seen, place: Place, data: bytes, what: str = "") -> None:
         """That a journal is refused at this place, which is in the record of `show journal`."""
@@ -208,6 +215,31 @@ class TestDamage(JournalCase):
         found = self.drop(bytes(changed), kind="journal")[0]
         self.assertIn(": record 0 ", found.fault)
         self.assertIn("lacks its check sum", found.fault)
+
+    def test_changed_bytes(self) -> None:
+        """A journal of version 2 with one bit of a byte changed, or each bit of it: of its header, of groups
+        of one and more, and of the gates behind them. The last gate alone may be lost."""
+        iksn = 5 << 21
+        paid = [Payment(iksn + it, it, 0, self.chance.randbytes(8)) for it in (1, 2, 3, 4)]
+        groups = [paid[:1], [*paid[1:3], Reversal(iksn + 5, iksn + 1, UNDONE, bytes(8))], paid[3:]]
+        data = checked(journal_of(groups, 2), self.chance.getrandbits(64))
+        places = [*range(HEADER + 5 * RECORD), HEADER + 5 * RECORD, HEADER + 6 * RECORD]
+        changes = [(at, bits) for at in places for bits in (1 << self.chance.randrange(8), 0xFF, 1)]
+        files = [data[:at] + bytes([data[at] ^ bits]) + data[at + 1 :] for at, bits in changes]
+        for (at, _), it, found in zip(changes, files, self.drop(*files, kind="journal")):
+            self.assertEqual(self.assert_read(found, it), not is_found(groups, at, data[at], it[at]), at)
+
+    def test_torn_2(self) -> None:
+        """Bytes behind the groups of a journal of version 2, as a stop leaves them, are no damage."""
+        for _ in range(20 * self.times):
+            groups = without_repeats(self.journals.entry_groups(self.chance.randrange(4)))
+            plain = bytearray(journal_of(groups, 4))
+            end = RECORD * sum(map(len, groups))
+            for at in range(end, len(plain)):
+                if at % RECORD and self.chance.random() < 0.8:
+                    plain[at] = self.chance.randrange(256)
+            data = checked(bytes(plain), self.chance.getrandbits(64))
+            self.assertTrue(self.assert_read(self.drop(data, kind="journal")[0], data))
 
     def test_first(self) -> None:
         """Of several places the first one is named: of a record, of records, of a group's head. A

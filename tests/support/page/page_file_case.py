@@ -20,7 +20,7 @@ const look = () => {
   const found = document.getElementById("file-found");
   return { kind: found.dataset.kind ?? "", fault: fault.textContent,
     from: fault.dataset.from, to: fault.dataset.to, taken: text("file-taken"),
-    words: found.querySelector("p")?.textContent ?? "",
+    words: [...found.querySelectorAll("p")].map((it) => it.textContent).join(" "),
     title: found.querySelector("h4")?.textContent,
     rows: rows("data-record"), sums: rows("data-iksn") };
 };

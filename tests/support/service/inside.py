@@ -23,9 +23,12 @@ import dukpt_host.host  # noqa: E402
 from dukpt import Module  # noqa: E402
 from dukpt_host import arguments, components, keys  # noqa: E402
 from dukpt_host.book import opening  # noqa: E402
+from dukpt_host.book import lane  # noqa: E402
 from dukpt_host.book import service as book  # noqa: E402
 from dukpt_host.book.counts import Counts  # noqa: E402
 from dukpt_host.book.lane import Lane  # noqa: E402
+from dukpt_host.book.places import PAYMENT, PLACE, parted  # noqa: E402
+from dukpt_host.book.service import BookService  # noqa: E402
 from dukpt_host.configuration import Refused  # noqa: E402
 from dukpt_host.connection import Connection  # noqa: E402
 from dukpt_host.connections import Connections, Limits  # noqa: E402
@@ -260,9 +263,9 @@ def heard() -> Iterator[str]:
     """Which messages of a server, which speaks another language, tell that its wait was cancelled."""
     with_all, connection = exchange(), Mock()
     for own, english in (("WARNUNG", "WARNING"), ("HINWEIS", "NOTICE")):
-        lane = Lane(connection, True, Module.__new__(Module), Counts(), with_all.log)
-        lane.hear(connection, SimpleNamespace(severity=own, severity_en=english))
-        yield f"{own}: {lane.has_warned}"
+        it = Lane(connection, True, Module.__new__(Module), Counts(), with_all.log)
+        it.hear(connection, SimpleNamespace(severity=own, severity_en=english))
+        yield f"{own}: {it.has_warned}"
 
 
 # A watch that meets a fault that nobody foresaw
@@ -294,6 +297,220 @@ async def watched() -> str:
         seen.append(it.wrong or it.right)
     watch.cancel()
     return "; ".join(seen)
+
+
+# A piece that meets a fault that nobody foresaw
+
+
+class Said(Log):
+    """It keeps its lines. One with this text cannot be written, which is no fault of the stream."""
+
+    def __init__(self, broken: str = "no line") -> None:
+        super().__init__()
+        self.lines, self.broken = list[str](), broken
+
+    def line(self, text: str, mark: str = "") -> None:
+        if self.broken in text:
+            raise ValueError("unforeseen")
+        self.lines.append(text)
+
+
+class Answering(AtEnd):
+    """In the place of a service: it answers each group at once."""
+
+    async def run(self) -> None:
+        await self.exchange.serve(self)
+        await self.stopping.wait()
+        await self.exchange.serve(self)
+
+
+class Settling:
+    """In the place of a module, to which each frame is a payment, and its answer `ANSWER`."""
+
+    def judge_places(self, places: bytes) -> bytes:
+        return b"".join(bytes([PAYMENT]) + bytes(PLACE - 1) for _ in parted(places))
+
+    def answer_places(self, places: bytes) -> bytes:
+        return b"".join(ANSWER.ljust(PLACE, b"\0") for _ in parted(places))
+
+    def close(self) -> None:
+        pass
+
+
+class Kept:
+    """In the place of a database: it counts what was settled, and how often a settle broke."""
+
+    def __init__(self) -> None:
+        self.settled = self.breaks = 0
+
+    async def settle(self, _: object, group: Sequence[bytes], __: bool) -> list[bytes]:
+        if not self.breaks:
+            self.breaks += 1
+            raise ValueError("unforeseen")
+        self.settled += len(group)
+        return [*group]
+
+
+class Open(Ended):
+    """A connection to a database that stays open."""
+
+    def add_log_listener(self, _: object) -> None:
+        pass
+
+
+async def asked(host: Host, count: int = 3) -> str:
+    """How many answers a client gets that sends so many frames and reads to the end, or to one too many."""
+    reader, writer = await asyncio.open_connection(*host.sockets[0].getsockname()[:2])
+    writer.write(FRAME * count)
+    data, wanted = b"", ANSWER * count
+    try:
+        while len(data) < len(wanted) and (more := await reader.read(1 << 16)):
+            data += more
+        data += await asyncio.wait_for(reader.read(1 << 16), 0.2)
+    except (OSError, asyncio.TimeoutError):
+        pass
+    writer.close()
+    return f"{len(data) // len(ANSWER)} of {count}" if wanted.startswith(data) else f"wrong: {data.hex()}"
+
+
+async def came(host: Host, frames: int) -> None:
+    """Waits until so many frames were read."""
+    while host.metrics.frames < frames:
+        await asyncio.sleep(0.001)
+
+
+async def end_of(running: asyncio.Task[int], host: Host, seconds: float = SECONDS) -> str:
+    """How a host ends, which is told to where it does not by itself in so many seconds."""
+    done, _ = await asyncio.wait([running], timeout=seconds)
+    host.stop()
+    try:
+        end = f"status {await asyncio.wait_for(running, SECONDS)}"
+    except ValueError as why:
+        end = f"fault {why}"
+    return f"{'by itself' if done else 'told to'}, {end}"
+
+
+def made(log: Log) -> Host:
+    return Host(arguments.read((*WORDS, "--listen", "127.0.0.1:0", "--closing", "0.5")), log)
+
+
+# So long it is looked at a host that is to go on.
+WATCHED = 0.5
+
+
+async def broken_settle() -> str:
+    """Of a group that the first client waits for nobody knows what came. Its connection ends, and the next one
+    goes on over another connection to the database."""
+    kept, log, seen = Kept(), Said(), list[BookService]()
+
+    async def open_ready(*_: object) -> Open:
+        return Open()
+
+    async def standbys(*_: object) -> int:
+        return 1
+
+    def service(_: object, connections: Connections, metrics: Metrics, log: Log) -> Any:
+        with_all = Exchange(connections.waiting, connections, metrics, log, "unknown")
+        module: Any = Settling()
+        seen.append(BookService(Database((), True, 1), module, with_all, metrics, log))
+        return seen[0]
+
+    setattr(book, "open_ready", open_ready)
+    setattr(book, "standbys", standbys)
+    setattr(lane, "settle", kept.settle)
+    setattr(dukpt_host.host, "service_of", service)
+    host = made(log)
+    running = asyncio.create_task(host.run())
+    found = [await asked(host), await asked(host)]
+    told = [it for it in log.lines if "unforeseen" in it]
+    return (f"{found}, {kept.settled} settled, {seen[0].counts.lost} lost, "
+            f"{host.metrics.closed['unknown']} unknown; {await end_of(running, host, WATCHED)}; {told}")
+
+
+def breaks(*_: object) -> Any:
+    raise ValueError("unforeseen")
+
+
+async def broken_answer(piece: str) -> str:
+    """A line of an answer that cannot be written, or what counts answers, in a host that answers at once."""
+    setattr(dukpt_host.host, "service_of", answering)
+    log = Said("refused 00" if piece == "line" else "no line")
+    host = made(log)
+    if piece == "count":
+        setattr(host.metrics.seconds, "add", breaks)
+    running = asyncio.create_task(host.run())
+    return f"{await asked(host)}; {await end_of(running, host)}"
+
+
+async def broken_beside(piece: str) -> str:
+    """What looks at limits of time, or lets clients in, beside a client whose frames were read and are answered
+    when the host ends."""
+    setattr(dukpt_host.host, "service_of", standing_in)
+    host = made(Said())
+    look, meet = host.connections.look, host.door.meet
+
+    def looking() -> None:
+        if host.metrics.frames:
+            breaks()
+        look()
+
+    def meeting(taken: socket.socket, peer: str) -> None:
+        if host.metrics.frames:
+            taken.close()
+            breaks()
+        meet(taken, peer)
+
+    setattr(*((host.connections, "look", looking) if piece == "beat" else (host.door, "meet", meeting)))
+    running = asyncio.create_task(host.run())
+    first = asyncio.create_task(asked(host))
+    await came(host, 3)
+    if piece == "door":
+        await asked(host)
+    return f"{await first}; {await end_of(running, host)}"
+
+
+async def broken_frames() -> str:
+    """What takes the frames of a client, the first time: its connection ends, and the next one has answers.
+    asyncio tells of it."""
+    setattr(dukpt_host.host, "service_of", answering)
+    host, told, turns = made(Said()), list[str](), [breaks]
+    add = host.connections.waiting.add
+
+    def adding(*given: Any) -> None:
+        if turns:
+            turns.pop()()
+        add(*given)
+
+    setattr(host.connections.waiting, "add", adding)
+    asyncio.get_running_loop().set_exception_handler(lambda _, of: told.append(str(of.get("exception"))))
+    running = asyncio.create_task(host.run())
+    found = [await asked(host), await asked(host)]
+    return f"{found}; {await end_of(running, host, WATCHED)}; {told}"
+
+
+async def full() -> str:
+    """A host of which no line finds room."""
+    setattr(dukpt_host.host, "service_of", answering)
+    told, sys.stderr = sys.stderr, open("/dev/full", "w", encoding="utf-8")
+    host = made(Log())
+    running = asyncio.create_task(host.run())
+    found = f"{await asked(host)}; {await end_of(running, host, WATCHED)}"
+    sys.stderr = told
+    return found
+
+
+def answering(_: object, connections: Connections, metrics: Metrics, log: Log) -> Answering:
+    return Answering(Exchange(connections.waiting, connections, metrics, log, "unknown"))
+
+
+def broken() -> Iterator[str]:
+    """What comes of each, in the loop of Python and in that of uvloop."""
+    for name, work in (("settle", broken_settle), ("line", lambda: broken_answer("line")),
+                       ("count", lambda: broken_answer("count")), ("beat", lambda: broken_beside("beat")),
+                       ("door", lambda: broken_beside("door")), ("frames", broken_frames), ("full", full)):
+        for loop in (None, uvloop.new_event_loop):
+            with asyncio.Runner(loop_factory=loop) as runner:
+                yield f"{name}: {runner.run(work())}"
 
 
 # Several places of a database, of which some are silent
@@ -392,7 +609,7 @@ def wiped() -> Iterator[str]:
 
 WHAT: dict[str, Callable[[], Iterator[str]]] = {
     "entering": entering, "reached": reached, "closed": closed, "unread": lambda: iter([asyncio.run(unread())]),
-    "lanes": lambda: iter([asyncio.run(lanes())]), "heard": heard, "wiped": wiped,
+    "lanes": lambda: iter([asyncio.run(lanes())]), "heard": heard, "wiped": wiped, "broken": broken,
     "watched": lambda: iter([asyncio.run(watched())]), "places": lambda: iter([asyncio.run(places())])}
 
 
