@@ -17,13 +17,13 @@ type CountedHost<'a> = JournalHost<16, DiskJournal<MemDisk>, Counting<'a>>;
 
 /// A host that was brought up over a new journal with room for so many entries, and whose issuer
 /// counts here.
-fn counted_host(alloc: Global, room: usize, asked: &Cell<u32>) -> Option<CountedHost<'_>> {
+fn counted_host(alloc: Global, room: u8, asked: &Cell<u32>) -> Option<CountedHost<'_>> {
     let hsm = security_module().ok()?;
     if !hsm.has_zone() {
         return None;
     }
     let header = journal_header(0);
-    let size = RECORD_LENGTH * (1 + room);
+    let size = RECORD_LENGTH * (1 + room as usize);
     let disk = MemDisk::with_front(alloc, header.as_slice(), size).ok()?;
     let journal = DiskJournal::new(alloc, disk).ok()?;
     let mut host = JournalHost::new(alloc, hsm, Counting { asked }, journal);
@@ -77,11 +77,7 @@ static REVERSED_FIRST: [([&[u8]; 3], u32); 2] = [
 ];
 
 /// The first of these groups after which the issuer was asked more often or less.
-fn asked_otherwise(
-    alloc: Global,
-    room: usize,
-    groups: &[([&[u8]; 3], u32)],
-) -> Option<Option<usize>> {
+fn asked_otherwise(alloc: Global, room: u8, groups: &[([&[u8]; 3], u32)]) -> Option<Option<usize>> {
     let asked = Cell::new(0);
     let mut host = counted_host(alloc, room, &asked)?;
     let mut group = Group::new(alloc).ok()?;
