@@ -14,6 +14,7 @@ use Rattle.duk_program.specs.declared.fault.Fault.{Fault}
 use Rattle.duk_program.specs.declared.fault.Fault.TheVariants as fault
 use Rattle.duk_script.specs.FaultLine.{fault_line}
 use Rattle.duk_service.specs.CopyJournal.{copy_journal_line}
+use Rattle.duk_service.specs.GrowJournal.{grow_journal_line}
 use Rattle.duk_service.specs.NewFile.{new_file_line}
 use Rattle.duk_service.specs.ServeFault.{serve_fault_line}
 use Rattle.duk_show.specs.Fault.{show_line}

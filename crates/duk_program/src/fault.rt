@@ -13,6 +13,7 @@ use duk_config::ScriptFault;
 use duk_io::Sink;
 use duk_script::print_fault;
 use duk_service::copy_journal::CopyJournalFault;
+use duk_service::grow_journal::GrowJournalFault;
 use duk_service::new_file::NewFileFault;
 use duk_service::{FileFault, RecordFormat, ServeFault};
 use duk_show::ShowFault;

@@ -19,6 +19,7 @@ use duk_commands::{BatchFault, Fault as CommandFault, FindFault};
 use duk_components::ComponentFault;
 use duk_pin::PinFault;
 use duk_service::copy_journal::CopyJournalFault;
+use duk_service::grow_journal::GrowJournalFault;
 use duk_service::new_file::NewFileFault;
 use duk_service::{FileFault, Reason, RecordFormat};
 use duk_show::ShowFault;

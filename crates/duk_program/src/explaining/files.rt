@@ -132,6 +132,13 @@ pub(crate) fn unmade(argument: &'static str, name: &'static str) -> Seen {
     )
 }
 
+/// A journal that is not made larger, or only in part.
+pub(crate) fn ungrown() -> Seen {
+    words("journal", "a write or a sync failed, or too many records").wanted(
+        "a device with room for RECORDS more, of 32 bytes each",
+    )
+}
+
 /// An output that is not written.
 pub(crate) fn output() -> Seen {
     words("output", "a write failed").wanted("a device with room, or a reader")
