@@ -1,5 +1,5 @@
 -- Records in front of bytes, behind which all bytes are zeros.
-use Rattle.std.proofs.Common.{◌≡◌, ◌≢◌, ◌∙◌, inl, inr, ◌+◌, ◌-◌, ◌*◌, ◌<◌, ◌≤◌, ◌++◌, ℕ, List, [], Option, Some, None, ap, arith, drop, get_or, length, length-append, length-drop, refl, replicate, subst, sym, take}
+use Rattle.std.proofs.Common.{◌≡◌, ◌≢◌, ◌∙◌, inl, inr, ◌+◌, ◌-◌, ◌*◌, ◌/◌, ◌%◌, ◌<◌, ◌≤◌, ◌++◌, ℕ, List, [], Option, Some, None, ap, arith, drop, get_or, length, length-append, length-drop, refl, replicate, subst, sym, take}
 use Rattle.std.proofs.lemmas.Bool.{cases_lt}
 use Rattle.std.proofs.lemmas.Grind.{same_number_lists}
 use Rattle.std.proofs.lemmas.List.{drop_all, drop_at, get_or-drop, get_or-replicate, get_or-take, length-replicate, length-take, length-take-le, take-append-drop, take_all, take_at}
@@ -98,6 +98,10 @@ module _ (layout : Layout) (records : ℕ) (bytes : List ℕ) (inside : record_l
 
 -- ---- where the front is the whole
 
+pub whole_size_of : (layout : Layout) (size n : ℕ) → n ≡ record_length layout → size % n ≡ 0 → size ≡ record_length layout * (size / n)
+whole_size_of Log size n is whole = subst (λ (m : ℕ). size ≡ 16 * (size / m)) (sym is) (omega (arith, subst (λ (m : ℕ). size % m ≡ 0) is whole))
+whole_size_of (Journal version) size n is whole = subst (λ (m : ℕ). size ≡ 32 * (size / m)) (sym is) (omega (arith, subst (λ (m : ℕ). size % m ≡ 0) is whole))
+
 all_front : (layout : Layout) (records : ℕ) (bytes : List ℕ) → length bytes ≡ record_length layout * records → front_of layout records bytes ≡ bytes
 all_front Log records bytes size = take_all (16 * records) bytes (omega (arith, size))
 all_front (Journal version) records bytes size = take_all (32 * records) bytes (omega (arith, size))
@@ -135,7 +139,7 @@ pub parts_of : (layout : Layout) (records rest : ℕ) (bytes : List ℕ) → len
 parts_of layout records rest bytes size less growable =
     let whole = growable.left.whole in
     let long : length bytes ≡ record_length layout * whole.0 + growable.rest =
-    ap length growable.is ∙ length-append growable.front (replicate growable.rest 0) ∙ ap (λ (n : ℕ). n + length (replicate growable.rest 0)) whole.2 ∙ ap (λ (n : ℕ). record_length layout * whole.0 + n) (length-replicate {A = ℕ} growable.rest 0) in
+    ap length growable.is ∙ length-append growable.front (replicate growable.rest 0) ∙ ap (λ (n : ℕ). n + length {A = ℕ} (replicate growable.rest 0)) whole.2 ∙ ap (λ (n : ℕ). record_length layout * whole.0 + n) (length-replicate {A = ℕ} growable.rest 0) in
     let same = same_parts layout records whole.0 rest growable.rest (sym size ∙ long) less growable.short in
     let there : length growable.front ≡ record_length layout * records = whole.2 ∙ ap (λ (n : ℕ). record_length layout * n) (sym same.0) in (
       subst (λ (n : ℕ). 1 ≤ n) (sym same.0) whole.1,

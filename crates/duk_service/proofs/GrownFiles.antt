@@ -54,8 +54,8 @@ longer_wider old new few most within longer h bytes left =
 some_whole : (bytes : List ℕ) → IsGrowable (Journal Two) bytes → 32 ≤ length bytes
 some_whole bytes growable =
     let whole = growable.left.whole in
-    let long : length bytes ≡ 32 * whole.0 + length (replicate growable.rest 0) =
-    ap length growable.is ∙ length-append growable.front (replicate growable.rest 0) ∙ ap (λ (n : ℕ). n + length (replicate growable.rest 0)) whole.2 in
+    let long : length bytes ≡ 32 * whole.0 + length {A = ℕ} (replicate growable.rest 0) =
+    ap length growable.is ∙ length-append growable.front (replicate growable.rest 0) ∙ ap (λ (n : ℕ). n + length {A = ℕ} (replicate growable.rest 0)) whole.2 in
     omega (arith, long, whole.1)
 
 -- what keeps a list keeps it with zeros behind
