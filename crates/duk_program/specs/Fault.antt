@@ -34,6 +34,7 @@ fault_text (fault.Script why) = fault_line why
 fault_text (fault.Serve why) = serve_fault_line why
 fault_text (fault.Identity why) = identity_line why
 fault_text (fault.NewFile format why) = new_file_line format why
+fault_text (fault.GrowJournal why) = grow_journal_line why
 fault_text (fault.CopyJournal why) = copy_journal_line why
 
 -- the line of a fault was written, and a text that explains it behind, but for what failed writes cut

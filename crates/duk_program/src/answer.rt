@@ -31,6 +31,7 @@ use crate::random::draw_identity;
 use duk_commands::{BatchFault, do_batch, hand_on};
 use duk_io::{Sink, Source};
 use duk_service::copy_journal::copy_journal;
+use duk_service::grow_journal::grow_journal;
 use duk_service::new_file::{NewFile, new_file};
 use duk_service::{FileSystem, LogFiles};
 use std::alloc::Global;
@@ -178,6 +179,12 @@ fn answer_untold<S: FileSystem + LogFiles, R: Source, W: Sink>(
         CommandName::Serve => serve_files(alloc, files, request, input, output),
         CommandName::NewLog => make_file(alloc, files, NewFile::Log, request),
         CommandName::NewJournal => make_journal(alloc, files, request),
+        CommandName::GrowJournal => {
+            match grow_journal(files, request.text("FILE"), request.text("RECORDS")) {
+                Ok(()) => Ok(()),
+                Err(why) => Err(Fault::GrowJournal(why)),
+            }
+        }
         CommandName::CopyJournal => make_copy(alloc, files, request),
         CommandName::Show => show_asked(alloc, files, request, output),
         CommandName::Lmk => lmk_asked(alloc, request, output),

@@ -48,6 +48,8 @@ pub enum Fault {
     Identity(IdentityFault),
     /// Of `new-log` and `new-journal`.
     NewFile(RecordFormat, NewFileFault),
+    /// Of `grow-journal`.
+    GrowJournal(GrowJournalFault),
     /// Of `copy-journal`.
     CopyJournal(CopyJournalFault),
 }
@@ -72,6 +74,7 @@ impl Fault {
             Fault::Serve(why) => tell(fault, why.line().as_bytes()),
             Fault::Identity(why) => tell(fault, why.line().as_bytes()),
             Fault::NewFile(format, why) => tell(fault, why.line(*format).as_bytes()),
+            Fault::GrowJournal(why) => tell(fault, why.line().as_bytes()),
             Fault::CopyJournal(why) => tell(fault, why.line().as_bytes()),
         }
     }

@@ -46,9 +46,10 @@ Example:
   $ dukpt grow-journal payments.journal 1000
 
 Faults, on standard error with status 1, the first alone; --explain says more:
-  NAME: ..               The argument NAME as @FILE or @-: cannot read, too long, not UTF-8
-  records refused        RECORDS is no decimal number of 1 to 1000000000
-  journal: cannot open   FILE is missing, cannot be opened, or is in use by a service
-  journal: failed        FILE has bytes that no journal leaves, or a read of it failed
-  journal: cannot grow   FILE would be larger than a file may be, or a write or sync failed
-  out of memory          Memory was refused";
+  NAME: ..                The argument NAME as @FILE or @-: cannot read, too long, not UTF-8
+  records refused         RECORDS is no decimal number of 1 to 1000000000
+  journal: cannot open    FILE is missing, cannot be opened, or is in use by a service
+  journal: failed         FILE has bytes that no journal leaves, or a read of it failed
+  journal: version 1, ..  FILE is a journal of version 1: copy it with copy-journal, and grow that
+  journal: cannot grow    FILE would be larger than a file may be, or a write or sync failed
+  out of memory           Memory was refused";

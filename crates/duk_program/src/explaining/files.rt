@@ -61,9 +61,7 @@ pub(crate) fn of_serve(why: ServeFault) -> Seen {
             unopened(name_of(format), name_of(format), format)
         }
         ServeFault::NotOpened(format, OpenFault::OldVersion) => {
-            under(name_of(format), name_of(format), Found::Words("version 1")).wanted(
-                "one of version 2; make it by dukpt copy-journal OLD NEW",
-            )
+            old_version(name_of(format), format)
         }
         ServeFault::NotOpened(format, OpenFault::Failed | OpenFault::Foreign)
         | ServeFault::Host(format, HostFault::Store(_) | HostFault::Stopped)
@@ -123,6 +121,13 @@ pub(crate) fn failed(argument: &'static str, format: RecordFormat) -> Seen {
         RecordFormat::Log => "a log as it was kept, on a device that works",
         RecordFormat::Journal => "a journal as it was kept, on a device that works",
     })
+}
+
+/// A journal of version 1.
+pub(crate) fn old_version(argument: &'static str, format: RecordFormat) -> Seen {
+    under(argument, name_of(format), Found::Words("version 1")).wanted(
+        "one of version 2; make it by dukpt copy-journal OLD NEW",
+    )
 }
 
 /// A file that is not made.
