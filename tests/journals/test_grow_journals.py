@@ -9,14 +9,16 @@ from collections import Counter
 from pathlib import Path
 
 from ..support.commands.explained import CONSTANT
+from ..support.formats import journal_records
+from ..support.formats.checked_journal import HEADER, checked, journal_of, room_in
 from ..support.formats.journal_file import entries_in, records_for
-from ..support.formats.journal_records import RECORD, Journals, journal_of
+from ..support.formats.journal_records import RECORD, Journals
 from ..support.formats.left_files import JOURNAL
 from ..support.models.model_journal import payments_of_all
 from ..support.program import NO_LIMITS, Ended, Limits
 from ..support.service.client import payments
 from ..support.service.journal_case import (
-    CANNOT_OPEN, JOURNAL_FAILED, ON_JOURNAL, JournalCase, alone)
+    CANNOT_OPEN, JOURNAL_FAILED, OLD_VERSION, ON_JOURNAL, JournalCase, alone)
 from ..support.system.small_files import PAGE, SmallFiles
 from ..support.system.traced_files import READS, SYNCS, WRITES, Call, traced
 from .test_copy_journals import is_kept
@@ -81,7 +83,8 @@ class Grown(GrowCase):
         """Journals of any groups, reversals among them, with any bytes that a stop left behind them."""
         journals, count = Journals(self.chance), 0
         while count < 40 * self.times:
-            groups, image = journals.entry_journal(self.chance.randrange(9))
+            groups, plain = journals.entry_journal(self.chance.randrange(9))
+            image = checked(plain)
             if groups and is_kept(image):
                 self.check_grown(image, self.chance.randrange(1, 99), "drawn")
                 self.assertEqual(self.kept(), entries_in(image), "drawn")
@@ -90,15 +93,16 @@ class Grown(GrowCase):
     def test_a_torn_group(self) -> None:
         """What a stop left of an append stays too, and is no entry."""
         requests = payments(9)
-        torn = journal_of([payments_of_all(requests[5:])], 0)
-        image = journal_of([payments_of_all(requests[:5])], 0) + b"\x00" + torn[1:]
-        self.check_grown(image, 4, "torn")
+        torn = journal_records.journal_of([payments_of_all(requests[5:])], 0)
+        plain = journal_records.journal_of([payments_of_all(requests[:5])], 0)
+        self.check_grown(checked(plain + b"\x00" + torn[1:]), 4, "torn")
         self.assert_payments(payments_of_all(requests[:5]), "torn")
 
     def test_each_byte_is_written(self) -> None:
         """None of the new records is a hole."""
         self.make_journal(MANY)
         self.assert_output(self.grow(str(MANY)), b"", "", "many")
+        self.assertEqual(room_in(self.journal.read_bytes()), 2 * MANY)
         self.assertGreaterEqual(512 * self.journal.stat().st_blocks, 2 * RECORD * MANY)
 
     def test_half_grown(self) -> None:
@@ -130,7 +134,7 @@ class Grown(GrowCase):
         self.check_run(requests[:30], what="full")
         self.assertEqual(len(self.kept()), 20)
         for payments_then in (50, 80):
-            more = records_for(payments_then) - len(self.journal.read_bytes()) // RECORD
+            more = records_for(payments_then) - room_in(self.journal.read_bytes())
             self.assert_output(self.grow(str(more)), b"", "", f"{more} more")
             self.check_run(self.any_order(90), what=f"room for {payments_then}")
             self.assertEqual(len(self.kept()), payments_then)
@@ -179,10 +183,34 @@ class Refused(GrowCase):
             self.journal.write_bytes(image)
             self.refuse(JOURNAL_FAILED, image[:64].hex())
 
+    def test_version_1(self) -> None:
+        """Its own line, also with explanation; of its parts, and with less than a record behind, it is no
+        journal."""
+        plain = journal_records.journal_of(alone(payments_of_all(payments(3))), 2)
+        for image in (plain, bytes(3 * RECORD)):
+            self.journal.write_bytes(image)
+            self.refuse(OLD_VERSION, "a journal of version 1")
+        self.journal.write_bytes(plain)
+        ended = self.program.run("grow-journal", "journal", "1", "--explain", folder=self.home)
+        told = (f"{OLD_VERSION}\njournal file: version 1; wanted: one of version 2; make it by dukpt "
+                "copy-journal OLD NEW\n")
+        self.assert_ended(ended, 1, b"", told.encode(), "explained")
+        self.journal.write_bytes(plain + bytes(RECORD - 1))
+        self.refuse(JOURNAL_FAILED, "a part of a record behind")
+
+    def test_a_damaged_header(self) -> None:
+        """Each byte of it, while a service would refuse it too."""
+        image = journal_of(alone(payments_of_all(payments(3))), 2)
+        for at in range(1, HEADER):
+            damaged = bytearray(image)
+            damaged[at] ^= 1 << self.chance.randrange(8)
+            self.journal.write_bytes(damaged)
+            self.refuse(JOURNAL_FAILED, f"byte {at}")
+
     def test_a_journal_that_is_cut(self) -> None:
         """Anywhere in a record that has been written, or with other bytes than zeros behind its records."""
         image = self.full(3)
-        for size in range(2 * RECORD, 3 * RECORD + 1):
+        for size in range(HEADER + 2 * RECORD, HEADER + 3 * RECORD + 1):
             self.judge(image[:size], f"cut to {size}")
         for rest in range(1, RECORD):
             bytes_ = bytearray(rest)
@@ -197,7 +225,7 @@ class Refused(GrowCase):
                                          self.chance.randrange(1, 4)))
             image += bytes(self.chance.randrange(RECORD))
             for _ in range(self.chance.randrange(3)):
-                image[self.chance.randrange(len(image))] = self.chance.randrange(256)
+                image[self.chance.randrange(HEADER, len(image))] = self.chance.randrange(256)
             found[self.judge(bytes(image), image.hex())] += 1
         self.assertEqual(set(found), {False, True})
 

@@ -132,9 +132,9 @@ fn grow_end<S: LogFiles>(
     zeros: u64,
 ) -> Result<(), GrowJournalFault>
     requires { size + zeros ≤ most_bytes }
-    ensures grown { OnOk result (AreZerosKept S.Disk.meaning size zeros (S.End.state end.entry)) }
+    ensures grown { OnOk result (AreZerosKept S.Disk.meaning size zeros (S.End.state end)) }
     ensures refused { IfErr result
-        (AreZerosNotKept S.Disk.meaning size zeros (S.End.state end.entry)) }
+        (AreZerosNotKept S.Disk.meaning size zeros (S.End.state end)) }
 {
     let blank = [0; PIECE_LENGTH];
     let appended = append_synced(&mut end, zeros, &blank);
