@@ -1,5 +1,6 @@
 -- The first record of a journal of version 1.
-use Rattle.std.proofs.Common.{◌≡◌, ℕ, List, Option, Some, None, false≢true, get_or, refl}
+use Rattle.std.proofs.Common.{◌≡◌, ℕ, List, Option, Some, None, get_or, refl}
+use Rattle.std.proofs.lemmas.Bool.{false≢true}
 use Rattle.std.specs.Prelude.{IfSome, IsTrue}
 use Rattle.std.specs.Option.{is_some}
 use Rattle.duk_journal.specs.Groups.{HasContents}
