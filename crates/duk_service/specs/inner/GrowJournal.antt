@@ -44,8 +44,8 @@ pub record ZerosNotKept {D : Type 0} (meaning : DiskMeaning D) (size zeros : ℕ
 -- why it is not made longer
 abbrev pub AreZerosNotKept : {D : Type 0} → DiskMeaning D → ℕ → ℕ → EndState → GrowJournalFault
     → Type 0
-AreZerosNotKept meaning size zeros end fault.Ungrown = ZerosNotKept meaning size zeros end
-AreZerosNotKept meaning size zeros end _ = ⊥
+AreZerosNotKept meaning size count end fault.Ungrown = ZerosNotKept meaning size count end
+AreZerosNotKept meaning size count end _ = ⊥
 
 -- so many records in front, as bytes
 abbrev pub front_of : Layout → ℕ → List ℕ → List ℕ
