@@ -1,14 +1,14 @@
 -- Records in front of bytes, behind which all bytes are zeros.
-use Rattle.std.proofs.Common.{◌≡◌, ◌≢◌, ◌∙◌, inl, inr, ◌+◌, ◌-◌, ◌*◌, ◌/◌, ◌%◌, ◌<◌, ◌≤◌, ◌++◌, ℕ, List, [], Option, Some, None, ap, arith, drop, get_or, length, length-append, length-drop, refl, replicate, subst, sym, take}
-use Rattle.std.proofs.lemmas.Bool.{cases_lt}
+use Rattle.std.proofs.Common.{⊤, tt, ◌≡◌, ◌≢◌, ◌∙◌, inl, inr, ◌+◌, ◌-◌, ◌*◌, ◌/◌, ◌%◌, ◌<◌, ◌≤◌, ◌++◌, ℕ, Bool, false, true, List, [], Option, Some, None, ap, arith, drop, get_or, length, length-append, length-drop, refl, replicate, subst, sym, take}
+use Rattle.std.proofs.lemmas.Bool.{cases_lt, false≢true}
 use Rattle.std.proofs.lemmas.Grind.{same_number_lists}
 use Rattle.std.proofs.lemmas.List.{drop_all, drop_at, get_or-drop, get_or-replicate, get_or-take, length-replicate, length-take, length-take-le, take-append-drop, take_all, take_at}
 use Rattle.std.specs.List.{All}
 use Rattle.duk_store.specs.Disk.{DiskState, range_of}
 use Rattle.duk_service.specs.GrowJournal.{IsGrowable}
 use Rattle.duk_service.specs.LeftRecords.{AreClosedFrom, AreInGroups, HasFront, IsForeignAt, IsFront, IsLeftBy, IsOpen, IsWhole, IsZero, followers_in, record_at, record_length}
-use Rattle.duk_service.specs.inner.GrowJournal.{AreZerosBehind, IsPartSeen, front_of}
-use Rattle.duk_service.specs.inner.LeftRecords.{HasMark, IsLastIn, IsSeen, LacksMark}
+use Rattle.duk_service.specs.inner.GrowJournal.{AreSeenZeros, AreZerosBehind, IsPartSeen, IsSeenToGrow, front_of}
+use Rattle.duk_service.specs.inner.LeftRecords.{HasMark, IsFrontSeen, IsLastIn, IsSeen, LacksMark}
 use Rattle.duk_service.specs.declared.left_records.Mark.{Mark}
 use Rattle.duk_service.specs.declared.left_records.Layout.{Layout}
 use Rattle.duk_service.specs.declared.left_records.Layout.TheVariants.{Journal, Log}
@@ -169,3 +169,73 @@ growable_of layout records rest bytes size less left zeros =
           ∙ ap (λ (l : List ℕ). front_of layout records bytes ++ l) (are_replicated behind zeros ∙ ap (λ (n : ℕ). replicate n 0) count);
       left = left;
     }
+
+-- ---- a disk that is seen to be such a file
+
+-- a size is that of whole records, and of less than one
+size_parts : (layout : Layout) (size n : ℕ) → n ≡ record_length layout → (size ≡ record_length layout * (size / n) + (size - n * (size / n))) × (size - n * (size / n) < record_length layout)
+size_parts Log size n is = subst (λ (m : ℕ). (size ≡ 16 * (size / m) + (size - m * (size / m))) × (size - m * (size / m) < 16)) (sym is) (omega arith, omega arith)
+size_parts (Journal version) size n is = subst (λ (m : ℕ). (size ≡ 32 * (size / m) + (size - m * (size / m))) × (size - m * (size / m) < 32)) (sym is) (omega arith, omega arith)
+
+pub grown_parts : (layout : Layout) (size n : ℕ) → n ≡ record_length layout → (bytes : List ℕ) → length bytes ≡ size → IsGrowable layout bytes
+    → (1 ≤ size / n) × IsLeftBy layout (front_of layout (size / n) bytes) × All (λ byte. byte ≡ 0) (drop (record_length layout * (size / n)) bytes)
+grown_parts layout size n is bytes long growable =
+    let parts = size_parts layout size n is in
+    parts_of layout (size / n) (size - n * (size / n)) bytes (long ∙ parts.0) parts.1 growable
+
+pub not_to_grow : (layout : Layout) (disk : DiskState) → (disk.honest → ¬ IsGrowable layout disk.reads) → IsSeenToGrow layout disk false
+not_to_grow layout disk not = record { growable = λ is_true. absurd (false≢true is_true); foreign = λ is_false. not }
+
+pub other_front : (layout : Layout) (size n : ℕ) → n ≡ record_length layout → (disk : DiskState) → (disk.honest → length disk.reads ≡ size) → (found : Bool) → found ≡ false
+    → IsFrontSeen layout disk found → IsSeenToGrow layout disk false
+other_front layout size n is disk long true is_false seen = absurd (false≢true (sym is_false))
+other_front layout size n is disk long false is_false seen = not_to_grow layout disk (λ honest growable.
+    let parts = grown_parts layout size n is disk.reads (long honest) growable in
+    seen.1 honest (whole_begins layout (size / n) disk.reads parts.0 parts.1.front))
+
+pub other_bytes : (layout : Layout) (size n : ℕ) → n ≡ record_length layout → (disk : DiskState) → (disk.honest → length disk.reads ≡ size) → (found : Bool) → found ≡ false
+    → AreSeenZeros (n * (size / n)) (size - n * (size / n)) disk found → IsSeenToGrow layout disk false
+other_bytes layout size n is disk long found is_false seen = not_to_grow layout disk (λ honest growable.
+    let parts = grown_parts layout size n is disk.reads (long honest) growable in
+    let at : record_length layout * (size / n) ≡ n * (size / n) = ap (λ (m : ℕ). m * (size / n)) (sym is) in
+    seen.others is_false honest (part_zero (size - n * (size / n)) (n * (size / n)) (n * (size / n)) disk.reads (omega arith)
+    (subst (λ (m : ℕ). All {X = ℕ} (λ byte. byte ≡ 0) (drop m disk.reads)) at parts.2)))
+
+pub zeros_seen : (layout : Layout) (size n : ℕ) → n ≡ record_length layout → (mid last : DiskState) → (mid.honest → length mid.reads ≡ size) → (last.honest → mid.honest)
+    → last.reads ≡ mid.reads → (found : Bool) → found ≡ true
+    → AreSeenZeros (n * (size / n)) (size - n * (size / n)) mid found → last.honest → AreZerosBehind layout (size / n) last.reads
+zeros_seen layout size n is mid last long was same found is_true seen honest =
+    let at : n * (size / n) ≡ record_length layout * (size / n) = ap (λ (m : ℕ). m * (size / n)) is in
+    let count : length (drop (n * (size / n)) mid.reads) ≡ size - n * (size / n) = length-drop (n * (size / n)) mid.reads ∙ ap (λ (m : ℕ). m - n * (size / n)) (long (was honest)) in
+    let all : All {X = ℕ} (λ byte. byte ≡ 0) (drop (n * (size / n)) mid.reads) =
+    subst (λ (b : List ℕ). All {X = ℕ} (λ byte. byte ≡ 0) b) (take_all (size - n * (size / n)) (drop (n * (size / n)) mid.reads) (omega (arith, count))) (seen.zeros is_true (was honest)) in
+    subst (λ (b : List ℕ). AreZerosBehind layout (size / n) b) (sym same) (subst (λ (m : ℕ). All {X = ℕ} (λ byte. byte ≡ 0) (drop m mid.reads)) at all)
+
+pub left_to_grow : (layout : Layout) (size n : ℕ) → n ≡ record_length layout → (disk : DiskState) → (disk.honest → length disk.reads ≡ size)
+    → (disk.honest → AreZerosBehind layout (size / n) disk.reads) → (seen : Seen) → seen ≡ Left → IsPartSeen layout (size / n) disk seen → IsSeenToGrow layout disk true
+left_to_grow layout size n is disk long zeros seen left says = record {
+  growable = λ is_true honest.
+      let parts = size_parts layout size n is in
+      growable_of layout (size / n) (size - n * (size / n)) disk.reads (long honest ∙ parts.0) parts.1
+      (subst (λ (s : Seen). IsPartSeen layout (size / n) disk s) left says honest (zeros honest)) (zeros honest);
+  foreign = λ is_false. absurd (false≢true (sym is_false));
+}
+
+-- not that of a log or a journal
+abbrev IsOther : Seen → Type 0
+IsOther Left = ⊥
+IsOther _ = ⊤
+
+other_seen : (layout : Layout) (size n : ℕ) → n ≡ record_length layout → (disk : DiskState) → (disk.honest → length disk.reads ≡ size)
+    → (disk.honest → AreZerosBehind layout (size / n) disk.reads) → (seen : Seen) → IsOther seen → IsPartSeen layout (size / n) disk seen → IsSeenToGrow layout disk false
+other_seen layout size n is disk long zeros Left other says = absurd other
+other_seen layout size n is disk long zeros Empty other says = absurd says
+other_seen layout size n is disk long zeros Cut other says = absurd says
+other_seen layout size n is disk long zeros OtherFront other says = absurd says
+other_seen layout size n is disk long zeros (Foreign place) other says = not_to_grow layout disk (λ honest growable.
+    let parts = grown_parts layout size n is disk.reads (long honest) growable in (says honest (zeros honest)).not_left parts.1)
+
+pub foreign_to_grow : (layout : Layout) (size n : ℕ) → n ≡ record_length layout → (disk : DiskState) → (disk.honest → length disk.reads ≡ size)
+    → (disk.honest → AreZerosBehind layout (size / n) disk.reads) → (found seen : Seen) → found ≡ seen → IsOther seen → IsPartSeen layout (size / n) disk found → IsSeenToGrow layout disk false
+foreign_to_grow layout size n is disk long zeros found seen same other says =
+    other_seen layout size n is disk long zeros seen other (subst (λ (s : Seen). IsPartSeen layout (size / n) disk s) same says)

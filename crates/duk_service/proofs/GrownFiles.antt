@@ -3,12 +3,14 @@ use Rattle.std.proofs.Common.{◌≡◌, ◌≢◌, ◌∙◌, ◌⊎◌, inl, i
 use Rattle.std.proofs.lemmas.List.{append_assoc, length-replicate, replicate-append-replicate, take-replicate}
 use Rattle.duk_journal.specs.Groups.{Entries, KeepsChecked}
 use Rattle.duk_service.specs.FileEnd.{EndState, HasSomeOf, IsEndOf, LeavesLonger, PreservesEnd}
-use Rattle.duk_service.specs.GrowJournal.{HasGrownJournal, HasZerosBehind, IsGrowable, IsGrowableOpened, IsGrownInPart, IsLeftLonger, IsLonger, zeros_for}
+use Rattle.duk_service.specs.GrowJournal.{HasGrownJournal, HasZerosBehind, IsGrowJournalRefused, IsGrowable, IsGrowableOpened, IsGrownInPart, IsLeftLonger, IsLonger, zeros_for}
 use Rattle.duk_service.specs.LogFiles.{DiskKnown}
 use Rattle.duk_service.specs.NewFile.{IsRecordCount}
 use Rattle.duk_service.specs.declared.left_records.Layout.TheVariants.{Journal}
 use Rattle.duk_journal_copy.specs.declared.version.Version.TheVariants.{Two}
-use Rattle.duk_service.specs.inner.GrowJournal.{AreZerosKept, IsToGrow, ZerosNotKept}
+use Rattle.duk_service.specs.declared.grow_journal.GrowJournalFault.{GrowJournalFault}
+use Rattle.duk_service.specs.declared.grow_journal.GrowJournalFault.TheVariants as fault
+use Rattle.duk_service.specs.inner.GrowJournal.{AreZerosKept, AreZerosNotKept, IsToGrow, ZerosNotKept}
 use Rattle.duk_store.specs.Disk.{DiskMeaning, DiskState, LeavesItsSize, LeavesReads, ReadsMayStay}
 
 pub keeps_end : (old mid new : EndState) → PreservesEnd old mid → PreservesEnd mid new → PreservesEnd old new
@@ -112,3 +114,17 @@ module _ (law : KeepsBehindZeros) {D : Type 0} (meaning : DiskMeaning D) (known 
       failed = failed_too _ (subst (λ (n : ℕ). (¬ end.calm) ⊎ ((meaning.state_of kept.last).size ≢ before.size + n)) to_grow.are kept.failed);
       left = λ honest bytes left. subst (λ (n : ℕ). IsLeftLonger n before bytes) to_grow.are (left_longer zeros bytes honest (kept.left (ends.honest.0 honest) bytes left));
     }
+
+    pub refused_to_grow : (zeros : ℕ) → IsToGrow before.size records zeros → (why : GrowJournalFault) → AreZerosNotKept meaning before.size zeros end why
+        → IsGrowJournalRefused meaning known text why
+    refused_to_grow zeros to_grow fault.Ungrown kept = record {
+      records = records;
+      asked = asked;
+      disk = disk;
+      opened = opened;
+      cause = inr (grown_in_part zeros to_grow kept);
+    }
+    refused_to_grow zeros to_grow fault.RecordsRefused kept = absurd kept
+    refused_to_grow zeros to_grow fault.Unopened kept = absurd kept
+    refused_to_grow zeros to_grow fault.Failed kept = absurd kept
+    refused_to_grow zeros to_grow fault.OldVersion kept = absurd kept

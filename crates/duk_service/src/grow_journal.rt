@@ -81,8 +81,9 @@ pub fn grow_journal<S: LogFiles>(
         return Err(GrowJournalFault::Unopened);
     };
     let size = disk.size();
-    if let Some(why) = fault_in(&mut disk) {
-        return Err(why);
+    match fault_in(&mut disk) {
+        None => {}
+        Some(why) => return Err(why),
     }
     match zeros_to_append(size, records) {
         Some(zeros) => grow_end(files, end, size, zeros),

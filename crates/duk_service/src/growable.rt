@@ -37,7 +37,10 @@ pub(crate) fn may_be_grown<D: Disk>(disk: &mut D, layout: Layout) -> Result<bool
     }
     match look_at_records(disk, layout, records)? {
         Seen::Left => Ok(true),
-        _ => Ok(false),
+        Seen::Empty => Ok(false),
+        Seen::Cut => Ok(false),
+        Seen::OtherFront => Ok(false),
+        Seen::Foreign(_) => Ok(false),
     }
 }
 
