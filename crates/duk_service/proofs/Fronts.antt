@@ -1,5 +1,6 @@
 -- Records in front of bytes, behind which all bytes are zeros.
-use Rattle.std.proofs.Common.{⊤, tt, ◌≡◌, ◌≢◌, ◌∙◌, inl, inr, ◌+◌, ◌-◌, ◌*◌, ◌/◌, ◌%◌, ◌<◌, ◌≤◌, ◌++◌, ℕ, Bool, false, true, List, [], Option, Some, None, ap, arith, drop, get_or, length, length-append, length-drop, refl, replicate, subst, sym, take}
+use Rattle.std.proofs.Common.{◌≡◌, ◌≢◌, ◌∙◌, inl, inr, ◌+◌, ◌-◌, ◌*◌, ◌/◌, ◌%◌, ◌<◌, ◌≤◌, ◌++◌, ℕ, Bool, false, true, List, [], Option, Some, None, ap, arith, drop, get_or, length, length-append, length-drop, refl, replicate, subst, sym, take}
+use Rattle.std.specs.Prelude.{⊤}
 use Rattle.std.proofs.lemmas.Bool.{cases_lt, false≢true}
 use Rattle.std.proofs.lemmas.Grind.{same_number_lists}
 use Rattle.std.proofs.lemmas.List.{drop_all, drop_at, get_or-drop, get_or-replicate, get_or-take, length-replicate, length-take, length-take-le, take-append-drop, take_all, take_at}

@@ -1,4 +1,4 @@
-use Rattle.std.proofs.Common.{tt, ◌≡◌, ◌∙◌, ◌≤◌, arith, length, sym}
+use Rattle.std.proofs.Common.{◌≡◌, ◌∙◌, ◌≤◌, arith, length, sym}
 use Rattle.duk_service.specs.declared.left_records.Seen.TheVariants.{Cut, Empty, Foreign, OtherFront}
 use Rattle.duk_service.proofs.Fronts.{foreign_to_grow, grown_parts, left_to_grow, not_to_grow, other_bytes, other_front, zeros_seen}
 use Rattle.duk_service.proofs.growable.may_be_grown.Goals as goal
