@@ -117,14 +117,14 @@ module _ (law : KeepsBehindZeros) {D : Type 0} (meaning : DiskMeaning D) (known 
 
     pub refused_to_grow : (zeros : ℕ) → IsToGrow before.size records zeros → (why : GrowJournalFault) → AreZerosNotKept meaning before.size zeros end why
         → IsGrowJournalRefused meaning known text why
-    refused_to_grow zeros to_grow fault.Ungrown kept = record {
+    refused_to_grow most to_grow fault.Ungrown kept = record {
       records = records;
       asked = asked;
       disk = disk;
       opened = opened;
-      cause = inr (grown_in_part zeros to_grow kept);
+      cause = inr (grown_in_part most to_grow kept);
     }
-    refused_to_grow zeros to_grow fault.RecordsRefused kept = absurd kept
-    refused_to_grow zeros to_grow fault.Unopened kept = absurd kept
-    refused_to_grow zeros to_grow fault.Failed kept = absurd kept
-    refused_to_grow zeros to_grow fault.OldVersion kept = absurd kept
+    refused_to_grow most to_grow fault.RecordsRefused kept = absurd kept
+    refused_to_grow most to_grow fault.Unopened kept = absurd kept
+    refused_to_grow most to_grow fault.Failed kept = absurd kept
+    refused_to_grow most to_grow fault.OldVersion kept = absurd kept
