@@ -19,9 +19,9 @@ returns-in-Some-zeros_to_append-clause-grown g c =
     let end = g.S.End.FileEnd.state c.in-Ok.end in
     let zeros : ℕ = c.in-Some-zeros_to_append.zeros in
     on_ok_weaker c.grow_end.result (λ kept.
-        has_grown c.grown.ensures.keeps meaning known c.args.records.now c.in-Ok.disk opened end c.in-Ok.ensures.end c.in-Some.records c.in-Some.ensures.found zeros
-        (subst (λ (n : ℕ). IsToGrow n c.in-Some.records zeros) c.size-size.ensures c.in-Some-zeros_to_append.ensures.zeros)
-        (subst (λ (n : ℕ). AreZerosKept meaning n zeros end) c.size-size.ensures kept))
+    has_grown c.grown.ensures.keeps meaning known c.args.records.now c.in-Ok.disk opened end c.in-Ok.ensures.end c.in-Some.records c.in-Some.ensures.found zeros
+    (subst (λ (n : ℕ). IsToGrow n c.in-Some.records zeros) c.size-size.ensures c.in-Some-zeros_to_append.ensures.zeros)
+    (subst (λ (n : ℕ). AreZerosKept meaning n zeros end) c.size-size.ensures kept))
     c.grow_end.ensures.grown
 
 pub returns-in-Some-zeros_to_append-clause-refused : goal.returns-in-Some-zeros_to_append-clause-refused
@@ -36,8 +36,8 @@ returns-in-Some-zeros_to_append-clause-refused g c =
     let end = g.S.End.FileEnd.state c.in-Ok.end in
     let zeros : ℕ = c.in-Some-zeros_to_append.zeros in
     IfErr-weaker c.grow_end.result _ _ (λ why not_kept.
-        refused_to_grow c.grown.ensures.keeps meaning known c.args.records.now c.in-Ok.disk opened end c.in-Ok.ensures.end c.in-Some.records c.in-Some.ensures.found
-        (g.S.Disk.Disk.leaves_its_size c.in-Ok.disk) (g.S.Disk.Disk.reads_may_stay c.in-Ok.disk) zeros
-        (subst (λ (n : ℕ). IsToGrow n c.in-Some.records zeros) c.size-size.ensures c.in-Some-zeros_to_append.ensures.zeros) why
-        (subst (λ (n : ℕ). AreZerosNotKept meaning n zeros end why) c.size-size.ensures not_kept))
+    refused_to_grow c.grown.ensures.keeps meaning known c.args.records.now c.in-Ok.disk opened end c.in-Ok.ensures.end c.in-Some.records c.in-Some.ensures.found
+    (g.S.Disk.Disk.leaves_its_size c.in-Ok.disk) (g.S.Disk.Disk.reads_may_stay c.in-Ok.disk) zeros
+    (subst (λ (n : ℕ). IsToGrow n c.in-Some.records zeros) c.size-size.ensures c.in-Some-zeros_to_append.ensures.zeros) why
+    (subst (λ (n : ℕ). AreZerosNotKept meaning n zeros end why) c.size-size.ensures not_kept))
     c.grow_end.ensures.refused

@@ -10,7 +10,7 @@ returns-then-records-eq0-clause-seen g c =
     let long : d.honest → length d.reads ≡ c.size-size.result =
     (λ honest. g.D.Disk.leaves_its_size disk honest d.reads (g.D.Disk.reads_may_stay disk honest) ∙ sym c.size-size.ensures) in
     not_to_grow c.args.layout (g.D.Disk.meaning.state_of disk) (λ honest growable.
-        let some = (grown_parts c.args.layout c.size-size.result c.record_length-length.result c.record_length-length.ensures (g.D.Disk.meaning.state_of disk).reads (long honest) growable).0 in omega (arith, some, c.if-records-eq0.true))
+    let some = (grown_parts c.args.layout c.size-size.result c.record_length-length.result c.record_length-length.ensures (g.D.Disk.meaning.state_of disk).reads (long honest) growable).0 in omega (arith, some, c.if-records-eq0.true))
 
 pub returns-then-not-branch-clause-seen : goal.returns-then-not-branch-clause-seen
 returns-then-not-branch-clause-seen g c =

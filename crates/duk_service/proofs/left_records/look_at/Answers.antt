@@ -35,5 +35,5 @@ returns-clause-seen g c =
     IfOk-weaker c.look_at_records.result _ _
     (whole_seen c.args.layout records d
     (λ honest. g.D.Disk.leaves_its_size disk honest d.reads (g.D.Disk.reads_may_stay disk honest)
-        ∙ c.look_at_records.ensures.nature.size ∙ c.in_ok-has_front.ensures.nature.size ∙ size))
+    ∙ c.look_at_records.ensures.nature.size ∙ c.in_ok-has_front.ensures.nature.size ∙ size))
     c.look_at_records.ensures.seen
