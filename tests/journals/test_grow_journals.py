@@ -192,7 +192,7 @@ class Refused(GrowCase):
             self.refuse(OLD_VERSION, "a journal of version 1")
         self.journal.write_bytes(plain)
         ended = self.program.run("grow-journal", "journal", "1", "--explain", folder=self.home)
-        told = (f"{OLD_VERSION}\njournal file: version 1; wanted: one of version 2; make it by dukpt "
+        told = (f"{OLD_VERSION}\njournal journal: version 1; wanted: one of version 2; make it by dukpt "
                 "copy-journal OLD NEW\n")
         self.assert_ended(ended, 1, b"", told.encode(), "explained")
         self.journal.write_bytes(plain + bytes(RECORD - 1))

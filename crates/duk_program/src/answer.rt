@@ -9,7 +9,7 @@ ghost use Rattle.duk_program.specs.NewJournal.{IsCopyMade, IsCopyUnmade, IsNewJo
 ghost use Rattle.duk_program.specs.Random.{random_device};
 ghost use Rattle.duk_program.specs.Own.{MayUseOwn};
 ghost use Rattle.duk_program.specs.Scene.{scene};
-ghost use Rattle.duk_program.specs.declared.fault.Fault.TheVariants.{NewFile};
+ghost use Rattle.duk_program.specs.declared.fault.Fault.TheVariants.{NewFile as OfNewFile};
 ghost use Rattle.duk_program.specs.inner.Commands.{IsOverMessage, TellsNothing};
 ghost use Rattle.duk_program.specs.inner.Items.{items_in};
 ghost use Rattle.duk_service.specs.NewFile.{HasMadeFile, IsNewFileRefused, format_of};
@@ -283,7 +283,7 @@ fn make_file<S: LogFiles>(
         (S.making files.now (text_in (codes "FILE") request.now))
         (text_in (codes "RECORDS") request.now)) }
     ensures refused { IfErr result (λ why. (cause : NewFileFault)
-        × (why ≡ NewFile (format_of new) cause)
+        × (why ≡ OfNewFile (format_of new) cause)
         × IsNewFileRefused new S.Disk.meaning
         (S.making files.now (text_in (codes "FILE") request.now))
         (text_in (codes "RECORDS") request.now) cause) }
