@@ -1,11 +1,10 @@
 -- What a disk is that was looked at.
-use Rattle.std.proofs.Common.{◌≡◌, ◌≢◌, ◌∙◌, ℕ, List, arith, inl, inr, length, refl, subst, sym}
-use Rattle.std.specs.Prelude.{None, Option, Some}
+use Rattle.std.proofs.Common.{◌≡◌, ◌≢◌, ◌∙◌, ℕ, List, inl, inr, refl, subst, sym}
 use Rattle.duk_journal_copy.specs.declared.version.Version.{Version}
 use Rattle.duk_journal_copy.specs.declared.version.Version.TheVariants.{One, Two}
-use Rattle.duk_service.specs.LeftRecords.{HasFront, IsCut, IsForeignAt, IsLeftBy, IsWhole, layout_of}
+use Rattle.duk_service.specs.LeftRecords.{HasFront, IsCut, IsLeftBy, layout_of}
 use Rattle.duk_service.specs.LogFiles.{DiskKnown, IsDisk}
-use Rattle.duk_service.specs.OwnFiles.{IsJournalOf, IsNoOwnDisk, IsNotOwn, IsOnlyRead, IsOwn}
+use Rattle.duk_service.specs.OwnFiles.{IsJournalOf, IsNoOwnDisk, IsNotOwn, IsOnlyRead}
 use Rattle.duk_service.specs.declared.left_records.Layout.{Layout}
 use Rattle.duk_service.specs.declared.left_records.Layout.TheVariants as layout
 use Rattle.duk_service.specs.declared.left_records.RecordFormat.{RecordFormat}
@@ -61,33 +60,11 @@ not_left laid disk seen.Cut other is h = is.1 h
 not_left laid disk seen.OtherFront other is h = λ left. is.1 h left.front
 not_left laid disk (seen.Foreign place) other is h = (is h).not_left
 
--- whole records are as many in either version
-whole_in : (one other : Version) (size : ℕ) → IsWhole (layout.Journal one) size → IsWhole (layout.Journal other) size
-whole_in one other size whole = whole
-
+-- what is cut in one version is in the other
 cut_in : (one other : Version) (size : ℕ) → IsCut (layout.Journal one) size → IsCut (layout.Journal other) size
 cut_in one other size cut = record { some = cut.some; not_whole = cut.not_whole }
 
--- a disk that is seen to be none of version 2, and not for its first record, is that of no journal
-pub no_version : (disk : DiskState) (what : Seen) → what ≢ seen.Left → what ≢ seen.OtherFront → IsSeen (layout.Journal Two) disk what
-    → (disk.honest → length disk.reads ≡ disk.size) → disk.honest → (version : Version) → ¬ IsJournalOf version disk.reads
-no_version disk what left front is size h Two = not_left (layout.Journal Two) disk what left is h
-no_version disk seen.Left left front is size h One = absurd (left refl)
-no_version disk seen.OtherFront left front is size h One = absurd (front refl)
-no_version disk seen.Empty left front is size h One = λ journal.
-    omega (arith, is.0, size h, journal.1.whole.1, journal.1.whole.2)
-no_version disk seen.Cut left front is size h One = λ journal.
-    is.0.not_whole (subst (λ (n : ℕ). IsWhole (layout.Journal Two) n) (size h) journal.1.whole)
-no_version disk (seen.Foreign place) left front is size h One = λ journal. journal.0 (is h).front
-
--- one without a header is that of a journal of version 1, or of none
-pub version_one : (mid new : DiskState) → PreservesDisk mid new → PreservesBytes mid new → IsSeen (layout.Journal Two) mid seen.OtherFront
-    → IsSeen (layout.Journal One) new seen.Left → new.honest → IsJournalOf One new.reads
-version_one mid new nature bytes first second h = (
-  λ front. first.1 (nature.honest.1 h) (subst (λ (l : List ℕ). HasFront (layout.Journal Two) l) bytes.reads front),
-  second h,
-)
-
+-- one without a header, and that version 1 does not leave, is that of no journal
 pub neither_version : (mid new : DiskState) (what : Seen) → PreservesDisk mid new → PreservesBytes mid new → IsSeen (layout.Journal Two) mid seen.OtherFront
     → what ≢ seen.Left → IsSeen (layout.Journal One) new what → new.honest → (version : Version) → ¬ IsJournalOf version new.reads
 neither_version mid new what nature bytes first left second h One = λ journal. not_left (layout.Journal One) new what left second h journal.1

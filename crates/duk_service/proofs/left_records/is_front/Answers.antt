@@ -1,5 +1,5 @@
 use Rattle.std.proofs.Common.{subst, sym}
-use Rattle.std.specs.Prelude.{◌↔◌, IsTrue}
+use Rattle.std.specs.Prelude.{IsTrue}
 use Rattle.duk_journal_copy.specs.declared.version.Version.{Version}
 use Rattle.duk_service.specs.LeftRecords.{IsFront}
 use Rattle.duk_service.proofs.FrontRecords.{front_one}
