@@ -72,8 +72,8 @@ returns-clause-refused g c =
     (subst (λ (size : ℕ). CopyNotMade (record { version = version; checked = found }) c.args.identity meaning making size (meaning.state_of disk) (meaning.state_of c.make_new.new.old) why) size_is refused))
     c.make_new.ensures.refused
 
-pub returns-in_default-2-clause-refused : goal.returns-in_default-2-clause-refused
-returns-in_default-2-clause-refused g c =
+pub returns-in_default-size_of_copy-clause-refused : goal.returns-in_default-size_of_copy-clause-refused
+returns-in_default-size_of_copy-clause-refused g c =
     let meaning = g.S.Disk.Disk.meaning in
     let known = g.S.LogFiles.disks c.args.files.now c.args.old.now in
     let making = g.S.LogFiles.making c.args.files.now c.args.new.now in
@@ -85,4 +85,4 @@ returns-in_default-2-clause-refused g c =
     let checked = subst (λ records. IsChecked (journal_records_meaning meaning) records c.check.new.records found) c.new-records.ensures.records c.in-Ok-check.ensures.checked in
     no_size c.args.identity meaning known making version opened c.check.new.records disk disk found c.in-Ok.ensures.opened checked same c.into_disk-disk.ensures.disk
     (keeps_none (meaning.state_of disk)) (bytes_none (meaning.state_of disk))
-    (subst (λ (size : ℕ). IsNoSize (copy_size version size)) c.size-size.ensures c.in_default-2.ensures.none)
+    (subst (λ (size : ℕ). IsNoSize (copy_size version size)) c.size-size.ensures c.in_default-size_of_copy.ensures.none)

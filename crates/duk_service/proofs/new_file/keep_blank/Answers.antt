@@ -1,6 +1,6 @@
 use Rattle.std.proofs.Common.{◌≡◌, ℕ, arith, subst, sym}
 use Rattle.duk_service.specs.inner.NewFile.{IsSizeOf}
-use Rattle.duk_service.proofs.NewFiles.{nothing_yet}
+use Rattle.duk_service.proofs.NewFiles.{left_as_made, nothing_yet}
 use Rattle.duk_service.proofs.Results.{on_ok}
 use Rattle.duk_service.proofs.new_file.keep_blank.Goals as goal
 
@@ -8,6 +8,9 @@ pub write_anew-requires-clause-size : goal.write_anew-requires-clause-size
 write_anew-requires-clause-size g c =
     let is : c.args.size ≡ (g.S.Disk.Disk.meaning.state_of c.args.disk.now).size = omega (arith, c.size.ensures) in
     subst (λ (n : ℕ). IsSizeOf c.args.new n) is c.requires.size
+
+pub returns-then-size-clause-left : goal.returns-then-size-clause-left
+returns-then-size-clause-left g c = left_as_made c.unfinished.ensures c.args.new (g.S.Disk.Disk.meaning.state_of c.args.disk.now) c.requires.begins
 
 pub returns-clause-kept : goal.returns-clause-kept
 returns-clause-kept g c =
