@@ -1,5 +1,6 @@
 use Rattle.std.proofs.Common.{◌≡◌, ℕ, arith, subst, sym}
-use Rattle.duk_service.specs.inner.NewFile.{IsSizeOf}
+use Rattle.duk_service.specs.LogFiles.{IsFolderSynced}
+use Rattle.duk_service.specs.inner.NewFile.{IsKeptBlank, IsSizeOf}
 use Rattle.duk_service.proofs.NewFiles.{left_as_made, nothing_yet}
 use Rattle.duk_service.proofs.Results.{on_ok}
 use Rattle.duk_service.proofs.new_file.keep_blank.Goals as goal
@@ -16,8 +17,9 @@ pub returns-clause-kept : goal.returns-clause-kept
 returns-clause-kept g c =
     let old = g.S.Disk.Disk.meaning.state_of c.args.disk.now in
     let last = g.S.Disk.Disk.meaning.state_of c.write_anew.new.disk in
+    let folder = (g.S.LogFiles.making c.args.files.now c.args.file.now).folder in
     let is : c.args.size ≡ old.size = omega (arith, c.size.ensures) in
-    on_ok _ _ c.sync_folder.result
+    on_ok (IsFolderSynced folder) (IsKeptBlank c.args.new folder c.args.size old last) c.sync_folder.result
     (λ synced. record {
       size_is = sym is;
       written = c.in_ok-write_anew.ensures.written;
