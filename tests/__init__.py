@@ -9,7 +9,7 @@
 | `crates/` | what only the crates show: through `duk_driver`, and in their sources |
 | `documents/` | the documents, the manual pages and the pictures: what they say is so |
 | `hosts/` | `dukpt-host`, which serves many connections |
-| `journals/` | `dukpt serve --journal` and `copy-journal` |
+| `journals/` | `dukpt serve --journal`, `grow-journal` and `copy-journal` |
 | `library/` | the library for other languages: its calls, its packages and its examples |
 | `packages/` | the Debian packages, and a release |
 | `page/` | the page, in a browser |

@@ -25,6 +25,7 @@ declare -gA _dukpt_arguments=(
     [serve]="CONFIG --log=FILE --journal=FILE --explain -h --help"
     [new-log]="FILE RECORDS --explain --json --progress -h --help"
     [new-journal]="FILE RECORDS --explain --json --progress -h --help"
+    [grow-journal]="FILE RECORDS --explain --json --progress -h --help"
     [copy-journal]="OLD NEW --explain --json --progress -h --help"
     [help]="COMMAND"
 )

@@ -208,6 +208,13 @@ complete -c dukpt -n '__fish_seen_subcommand_from new-journal' -l json -d 'Print
 complete -c dukpt -n '__fish_seen_subcommand_from new-journal' -l progress -d 'Tell how far it is'
 complete -c dukpt -n '__fish_seen_subcommand_from new-journal' -s h -l help -d 'Print help'
 
+complete -c dukpt -n __fish_use_subcommand -a grow-journal -d 'FILE RECORDS: make a journal larger'
+complete -c dukpt -n '__fish_seen_subcommand_from grow-journal' -F
+complete -c dukpt -n '__fish_seen_subcommand_from grow-journal' -l explain -d 'Say more of a fault'
+complete -c dukpt -n '__fish_seen_subcommand_from grow-journal' -l json -d 'Print JSON'
+complete -c dukpt -n '__fish_seen_subcommand_from grow-journal' -l progress -d 'Tell how far it is'
+complete -c dukpt -n '__fish_seen_subcommand_from grow-journal' -s h -l help -d 'Print help'
+
 complete -c dukpt -n __fish_use_subcommand -a copy-journal -d 'OLD NEW: copy what a journal keeps'
 complete -c dukpt -n '__fish_seen_subcommand_from copy-journal' -F
 complete -c dukpt -n '__fish_seen_subcommand_from copy-journal' -l explain -d 'Say more of a fault'
@@ -216,4 +223,4 @@ complete -c dukpt -n '__fish_seen_subcommand_from copy-journal' -l progress -d '
 complete -c dukpt -n '__fish_seen_subcommand_from copy-journal' -s h -l help -d 'Print help'
 
 complete -c dukpt -n __fish_use_subcommand -a help -d 'COMMAND: print help'
-complete -c dukpt -n '__fish_seen_subcommand_from help' -a 'derive walk initial issue registers kcv lmk mac data pin unpin translate wrap unwrap show request reply find run serve new-log new-journal copy-journal help'
+complete -c dukpt -n '__fish_seen_subcommand_from help' -a 'derive walk initial issue registers kcv lmk mac data pin unpin translate wrap unwrap show request reply find run serve new-log new-journal grow-journal copy-journal help'

@@ -26,7 +26,8 @@ from .test_show import Damaged
 OF_STREAMS = {"write failed", "script: write failed", "serve: write failed", "serve: read failed",
               "serve: input ends in a frame", "serve: frame too long", "batch: items refused",
               "batch: read failed", "out of memory", "log: too long", "journal: too long",
-              "config: too long", "script: too long", "ledger: failed", "padding: cannot read"}
+              "config: too long", "script: too long", "ledger: failed", "padding: cannot read",
+              "journal: cannot grow"}
 # Faults as the manual page has them, whose rows are no command of this folder; and what else stands
 # there for a part of a line.
 ELSEWHERE = {"batch: ..", "padding: ..", "IKSN: issued", "IKSN: not issued"}
@@ -373,7 +374,7 @@ class Lost(ExplainCase):
         """Without standard error status, output and files are the same."""
         before = {it: it.read_bytes() for it in self.home.rglob("*") if it.is_file()}
         of_files = [it for it in rows() if it[0][0] in (
-            "issue", "serve", "run", "show", "new-log", "new-journal", "copy-journal")]
+            "issue", "serve", "run", "show", "new-log", "new-journal", "grow-journal", "copy-journal")]
         for words, _, _ in [*self.chance.sample(rows(), 30), *of_files]:
             for way in ("2>&-", "2>/dev/full", ">&- 2>&-", "<&- >&- 2>&-"):
                 ended = self.in_bash(with_explain(words, 0), way)

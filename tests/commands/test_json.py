@@ -199,6 +199,7 @@ class Commands(JsonCase):
         for words in (["new-log", "a", "3"], ["new-journal", "b", "3"], ["copy-journal", "b", "c"]):
             self.assert_ended(self.run_here(self.with_json(words)), 0, b"", b"", spoken(words))
             self.assertEqual(objects_in(self.run_here(self.with_json(words)).faults)[0][0][0], "fault")
+        self.assert_ended(self.run_here(self.with_json(["grow-journal", "b", "3"])), 0, b"", b"", "grown")
         for kind, name in (("log", "a"), ("journal", "b"), ("journal", "c")):
             self.check_alone(["show", kind, name])
 

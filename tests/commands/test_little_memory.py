@@ -9,6 +9,7 @@ from ..support.commands.shown import journal_ended, log_ended
 from ..support.formats.bank import BANK, LONGEST, BankCase
 from ..support.formats.images import log_disk
 from ..support.formats.checked_journal import blank, checked, journal_of, plain_of
+from ..support.formats.journal_records import RECORD
 from ..support.models.model_journal import payments_of_all
 from ..support.program import Ended, Limits, Word, spoken
 from ..support.service.client import payments
@@ -201,6 +202,25 @@ class JournalMemory(MemoryCase):
         """It takes the memory of a piece of zeros."""
         self.wanted = blank(3000)
         told = self.try_sizes(("new-journal", "made", "3000"), b"", 20)
+        self.assertLessEqual(set(told), {0})
+
+
+class GrownJournalMemory(MemoryCase):
+    """A journal is made larger, or stays as it is."""
+
+    def setUp(self) -> None:
+        super().setUp()
+        self.image = journal_of([[it] for it in payments_of_all(payments(9))], 50)
+        self.write("journal", self.image)
+
+    def behind(self, is_done: bool, what: str) -> None:
+        wanted = self.image + bytes(3 * RECORD if is_done else 0)
+        self.assertEqual((self.home / "journal").read_bytes(), wanted, what)
+        self.write("journal", self.image)
+
+    def test_a_grown_journal(self) -> None:
+        """It takes no memory of its own."""
+        told = self.try_sizes(("grow-journal", "journal", "3"), b"", 20)
         self.assertLessEqual(set(told), {0})
 
 

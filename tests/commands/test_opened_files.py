@@ -46,6 +46,7 @@ MORE = (
     ("serve", "bank.toml", "--journal", "journal"),
     ("new-log", "new.log", "7"),
     ("new-journal", "new", "7"),
+    ("grow-journal", "journal", "7"),
     ("copy-journal", "journal", "copy"),
     ("help",),
     ("help", "derive"),

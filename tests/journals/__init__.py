@@ -1,1 +1,1 @@
-"""`dukpt serve --journal` and `copy-journal`."""
+"""`dukpt serve --journal`, `grow-journal` and `copy-journal`."""

@@ -47,6 +47,8 @@ pub enum CommandName {
     NewLog,
     /// `new-journal`
     NewJournal,
+    /// `grow-journal`
+    GrowJournal,
     /// `copy-journal`
     CopyJournal,
 }

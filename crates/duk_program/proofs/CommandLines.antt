@@ -23,6 +23,7 @@ begun name.Run asked text makes is = absurd makes
 begun name.Serve asked text makes is = absurd makes
 begun name.NewLog asked text makes is = absurd makes
 begun name.NewJournal asked text makes is = absurd makes
+begun name.GrowJournal asked text makes is = absurd makes
 begun name.CopyJournal asked text makes is = absurd makes
 begun name.Find asked text makes is = absurd makes
 begun name.Show asked text makes is = absurd makes

@@ -97,4 +97,5 @@ known texts name.Run = refl
 known texts name.Serve = refl
 known texts name.NewLog = refl
 known texts name.NewJournal = refl
+known texts name.GrowJournal = refl
 known texts name.CopyJournal = refl

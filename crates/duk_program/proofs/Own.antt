@@ -25,6 +25,7 @@ module _ (may : List ℕ → Type 0) (asked meant : Written) where
   write : (command : CommandName) → HasPlain command asked meant → MayWriteOwn may command asked → MayWriteOwn may command meant
   write name.Serve plain own =
       (value (codes "log") (plain (codes "log") refl) own.0, value (codes "journal") (plain (codes "journal") refl) own.1)
+  write name.GrowJournal plain own = text (codes "FILE") (plain (codes "FILE") refl) own
   write name.Issue plain own = text (codes "ledger") (plain (codes "ledger") refl) own
   write _ plain own = tt
 

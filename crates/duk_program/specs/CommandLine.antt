@@ -125,6 +125,8 @@ row_of name.NewLog = row (codes "new-log") way.Files
     (plain needed (codes "FILE") ∷ reference needed (codes "RECORDS") ∷ [])
 row_of name.NewJournal = row (codes "new-journal") way.Files
     (plain needed (codes "FILE") ∷ reference needed (codes "RECORDS") ∷ [])
+row_of name.GrowJournal = row (codes "grow-journal") way.Files
+    (plain needed (codes "FILE") ∷ reference needed (codes "RECORDS") ∷ [])
 row_of name.CopyJournal = row (codes "copy-journal") way.Files
     (plain needed (codes "OLD") ∷ plain needed (codes "NEW") ∷ [])
 
@@ -133,7 +135,7 @@ abbrev pub all_commands : List CommandName
 all_commands = name.Derive ∷ name.Walk ∷ name.Initial ∷ name.Issue ∷ name.Registers ∷ name.Kcv
     ∷ name.Lmk ∷ name.Mac ∷ name.Data ∷ name.Pin ∷ name.Unpin ∷ name.Translate ∷ name.Wrap ∷ name.Unwrap
     ∷ name.Show ∷ name.Request ∷ name.Reply ∷ name.Find ∷ name.Run ∷ name.Serve ∷ name.NewLog
-    ∷ name.NewJournal ∷ name.CopyJournal ∷ []
+    ∷ name.NewJournal ∷ name.GrowJournal ∷ name.CopyJournal ∷ []
 
 -- what `clap` knows of an argument
 abbrev pub rule_by : Kind → Text → Rule

@@ -32,9 +32,11 @@ use Rattle.duk_program.specs.declared.fault.Fault.{Fault}
 use Rattle.duk_program.specs.declared.fault.Fault.TheVariants as fault
 use Rattle.duk_program.specs.declared.secrets.SecretFault.{SecretFault}
 use Rattle.duk_service.specs.Files.{FileKnown}
+use Rattle.duk_service.specs.GrowJournal.{HasGrownJournal, IsGrowJournalRefused}
 use Rattle.duk_service.specs.LogFiles.{MakingKnown}
 use Rattle.duk_service.specs.NewFile.{HasMadeFile, IsNewFileRefused}
 use Rattle.duk_service.specs.Serve.{HasNothingServed, Serving}
+use Rattle.duk_service.specs.declared.grow_journal.GrowJournalFault.{GrowJournalFault}
 use Rattle.duk_service.specs.declared.left_records.RecordFormat.TheVariants as kind
 use Rattle.duk_service.specs.declared.new_file.NewFile.TheVariants.{Log}
 use Rattle.duk_service.specs.declared.new_file.NewFileFault.{NewFileFault}
@@ -90,6 +92,8 @@ IsDoneUntold meaning s name.NewLog asked = IsIdle s
     (HasMadeFile Log meaning (new_in s asked) (text_in (codes "RECORDS") asked))
 IsDoneUntold meaning s name.NewJournal asked = IsIdle s (IsNewJournalMade meaning
     (s.held random_device) (new_in s asked) (text_in (codes "RECORDS") asked))
+IsDoneUntold meaning s name.GrowJournal asked = IsIdle s (HasGrownJournal meaning
+    (s.disks (text_in (codes "FILE") asked)) (text_in (codes "RECORDS") asked))
 IsDoneUntold meaning s name.CopyJournal asked = IsIdle s (IsCopyMade meaning (s.held random_device)
     (s.disks (text_in (codes "OLD") asked)) (s.making (text_in (codes "NEW") asked)))
 IsDoneUntold meaning s name.Show asked = HasLeftInput s.streams (HasShownAsked asked
@@ -108,6 +112,14 @@ pub record IsLogUnmade {D : Type 0} (meaning : DiskMeaning D) (s : Scene D) (ask
   pub why_is : why ≡ fault.NewFile kind.Log cause
   pub refused : IsIdle s (IsNewFileRefused Log meaning (new_in s asked)
       (text_in (codes "RECORDS") asked) cause)
+
+-- no journal is made larger, and nothing is read or printed
+pub record IsJournalUngrown {D : Type 0} (meaning : DiskMeaning D) (s : Scene D) (asked : Written)
+    (why : Fault) : Type 0 where
+  pub cause : GrowJournalFault
+  pub why_is : why ≡ fault.GrowJournal cause
+  pub refused : IsIdle s (IsGrowJournalRefused meaning
+      (s.disks (text_in (codes "FILE") asked)) (text_in (codes "RECORDS") asked) cause)
 
 -- TEXT is read, and `mac` or `data` over it is not done
 pub record IsNotDoneOverRead (held : List ℕ → FileKnown) (s : Serving) (asked : Written) (why : Fault)
@@ -132,6 +144,7 @@ IsNotDoneUntold meaning s name.Serve asked why = HasNotServedFiles meaning (serv
 IsNotDoneUntold meaning s name.NewLog asked why = IsLogUnmade meaning s asked why
 IsNotDoneUntold meaning s name.NewJournal asked why = IsIdle s (IsNewJournalUnmade meaning
     (s.held random_device) (new_in s asked) (text_in (codes "RECORDS") asked) why)
+IsNotDoneUntold meaning s name.GrowJournal asked why = IsJournalUngrown meaning s asked why
 IsNotDoneUntold meaning s name.CopyJournal asked why = IsIdle s (IsCopyUnmade meaning
     (s.held random_device) (s.disks (text_in (codes "OLD") asked))
     (s.making (text_in (codes "NEW") asked)) why)

@@ -4,10 +4,12 @@ use Rattle.duk_arguments.specs.Request.{Written, text_in, value_in}
 use Rattle.duk_arguments.specs.declared.name.CommandName.{CommandName}
 use Rattle.duk_arguments.specs.declared.name.CommandName.TheVariants as name
 
--- the file that a request opens to write it may be written: a service's log or journal, or a ledger
+-- the file that a request opens to write it may be written: a service's log or journal, a ledger, or
+-- a journal that is made larger
 abbrev pub MayWriteOwn : (List ℕ → Type 0) → CommandName → Written → Type 0
 MayWriteOwn may_write name.Serve asked = IfSome (value_in (codes "log") asked) may_write
     × IfSome (value_in (codes "journal") asked) may_write
+MayWriteOwn may_write name.GrowJournal asked = may_write (text_in (codes "FILE") asked)
 MayWriteOwn may_write name.Issue asked = may_write (text_in (codes "ledger") asked)
 MayWriteOwn may_write _ asked = ⊤
 

@@ -9,7 +9,7 @@ ghost use Rattle.duk_program.specs.NewJournal.{IsCopyMade, IsCopyUnmade, IsNewJo
 ghost use Rattle.duk_program.specs.Random.{random_device};
 ghost use Rattle.duk_program.specs.Own.{MayUseOwn};
 ghost use Rattle.duk_program.specs.Scene.{scene};
-ghost use Rattle.duk_program.specs.declared.fault.Fault.TheVariants.{NewFile};
+ghost use Rattle.duk_program.specs.declared.fault.Fault.TheVariants.{NewFile as OfNewFile};
 ghost use Rattle.duk_program.specs.inner.Commands.{IsOverMessage, TellsNothing};
 ghost use Rattle.duk_program.specs.inner.Items.{items_in};
 ghost use Rattle.duk_service.specs.NewFile.{HasMadeFile, IsNewFileRefused, format_of};
@@ -31,6 +31,7 @@ use crate::random::draw_identity;
 use duk_commands::{BatchFault, do_batch, hand_on};
 use duk_io::{Sink, Source};
 use duk_service::copy_journal::copy_journal;
+use duk_service::grow_journal::grow_journal;
 use duk_service::new_file::{NewFile, new_file};
 use duk_service::{FileSystem, LogFiles};
 use std::alloc::Global;
@@ -178,6 +179,12 @@ fn answer_untold<S: FileSystem + LogFiles, R: Source, W: Sink>(
         CommandName::Serve => serve_files(alloc, files, request, input, output),
         CommandName::NewLog => make_file(alloc, files, NewFile::Log, request),
         CommandName::NewJournal => make_journal(alloc, files, request),
+        CommandName::GrowJournal => {
+            match grow_journal(files, request.text("FILE"), request.text("RECORDS")) {
+                Ok(()) => Ok(()),
+                Err(why) => Err(Fault::GrowJournal(why)),
+            }
+        }
         CommandName::CopyJournal => make_copy(alloc, files, request),
         CommandName::Show => show_asked(alloc, files, request, output),
         CommandName::Lmk => lmk_asked(alloc, request, output),
@@ -276,7 +283,7 @@ fn make_file<S: LogFiles>(
         (S.making files.now (text_in (codes "FILE") request.now))
         (text_in (codes "RECORDS") request.now)) }
     ensures refused { IfErr result (λ why. (cause : NewFileFault)
-        × (why ≡ NewFile (format_of new) cause)
+        × (why ≡ OfNewFile (format_of new) cause)
         × IsNewFileRefused new S.Disk.meaning
         (S.making files.now (text_in (codes "FILE") request.now))
         (text_in (codes "RECORDS") request.now) cause) }

@@ -25,7 +25,7 @@ use std::alloc::{AllocError, Global};
 const VERSION: &str = "0.1.0";
 
 /// The program's commands, in the order in which help lists them.
-fn all_commands() -> [CommandName; 23]
+fn all_commands() -> [CommandName; 24]
     ensures { result ≡ all_commands }
 {
     [
@@ -51,6 +51,7 @@ fn all_commands() -> [CommandName; 23]
         CommandName::Serve,
         CommandName::NewLog,
         CommandName::NewJournal,
+        CommandName::GrowJournal,
         CommandName::CopyJournal,
     ]
 }
@@ -82,6 +83,7 @@ pub(crate) fn usage_of<'a>(command: CommandName) -> Usage<'a>
         CommandName::Serve => commands::serve::usage(),
         CommandName::NewLog => commands::new_log::usage(),
         CommandName::NewJournal => commands::new_journal::usage(),
+        CommandName::GrowJournal => commands::grow_journal::usage(),
         CommandName::CopyJournal => commands::copy_journal::usage(),
     }
 }

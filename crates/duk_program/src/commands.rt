@@ -11,6 +11,7 @@ pub(crate) mod copy_journal;
 pub(crate) mod data;
 pub(crate) mod derive;
 pub(crate) mod find;
+pub(crate) mod grow_journal;
 pub(crate) mod initial;
 pub(crate) mod issue;
 pub(crate) mod kcv;

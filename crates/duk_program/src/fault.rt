@@ -13,6 +13,7 @@ use duk_config::ScriptFault;
 use duk_io::Sink;
 use duk_script::print_fault;
 use duk_service::copy_journal::CopyJournalFault;
+use duk_service::grow_journal::GrowJournalFault;
 use duk_service::new_file::NewFileFault;
 use duk_service::{FileFault, RecordFormat, ServeFault};
 use duk_show::ShowFault;
@@ -47,6 +48,8 @@ pub enum Fault {
     Identity(IdentityFault),
     /// Of `new-log` and `new-journal`.
     NewFile(RecordFormat, NewFileFault),
+    /// Of `grow-journal`.
+    GrowJournal(GrowJournalFault),
     /// Of `copy-journal`.
     CopyJournal(CopyJournalFault),
 }
@@ -71,6 +74,7 @@ impl Fault {
             Fault::Serve(why) => tell(fault, why.line().as_bytes()),
             Fault::Identity(why) => tell(fault, why.line().as_bytes()),
             Fault::NewFile(format, why) => tell(fault, why.line(*format).as_bytes()),
+            Fault::GrowJournal(why) => tell(fault, why.line().as_bytes()),
             Fault::CopyJournal(why) => tell(fault, why.line().as_bytes()),
         }
     }

@@ -1,6 +1,6 @@
 -- What is known of a journal that is checked, and then copied.
-use Rattle.std.proofs.Common.{◌≡◌, ◌∙◌, ◌↔◌, ◌+◌, ◌*◌, ◌≤◌, ap, arith, ℕ, List, inl, inr, length, refl, subst, sym, true}
-use Rattle.std.specs.Prelude.{None, ◌⊎◌}
+use Rattle.std.proofs.Common.{◌≡◌, ◌∙◌, ◌+◌, ◌*◌, ◌≤◌, ap, arith, ℕ, List, inl, inr, length, refl, subst, sym, true}
+use Rattle.std.specs.Prelude.{◌⊎◌}
 use Rattle.duk_journal_copy.specs.Copy.{IsCopied, IsRecordCopied}
 use Rattle.duk_journal_copy.specs.Version.{JournalRecords, KeepsIn, format_of, journal_records_meaning, new_journal_records}
 use Rattle.duk_journal_copy.specs.declared.copy.Kept.{Kept}

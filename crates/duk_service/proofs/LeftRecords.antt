@@ -66,19 +66,19 @@ last_of_piece layout mark at count place bytes piece is last =
 -- ---- records behind the bytes
 
 -- there is none
-no_record : (layout : Layout) (place records : ℕ) (bytes : List ℕ) → length bytes ≡ record_length layout * records → records ≤ place
+pub no_record : (layout : Layout) (place records : ℕ) (bytes : List ℕ) → length bytes ≡ record_length layout * records → records ≤ place
     → record_at layout place bytes ≡ []
 no_record Log place records bytes size past = ap (take 16) (drop_all (16 * place) bytes (omega (arith, size, past)))
 no_record (Journal version) place records bytes size past = ap (take 32) (drop_all (32 * place) bytes (omega (arith, size, past)))
 
-none_is_zero : IsZero []
+pub none_is_zero : IsZero []
 none_is_zero = λ k d inside. absurd (let never : ⊥ = omega (arith, inside) in never)
 
 zero_gate : (bytes : List ℕ) → IsZero bytes → gate_of bytes ≡ 0
 zero_gate [] zero = refl
 zero_gate (b ∷ bs) zero = zero 0 0 (omega arith)
 
-zero_closed : (bytes : List ℕ) → IsZero bytes → ¬ IsOpen bytes
+pub zero_closed : (bytes : List ℕ) → IsZero bytes → ¬ IsOpen bytes
 zero_closed bytes zero open_now = omega (arith, zero_gate bytes zero, open_now)
 
 -- behind the last record that is used all are zeros

@@ -1,5 +1,7 @@
 mod CopiedJournal
 mod LeftDisks
+mod Fronts
+mod GrownFiles
 mod Ended
 mod LeftFollowers
 mod LeftRecords

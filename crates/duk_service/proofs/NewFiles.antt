@@ -1,5 +1,5 @@
 -- What is known of a disk that a new file is made of.
-use Rattle.std.proofs.Common.{◌≡◌, ◌∙◌, ◌+◌, ◌*◌, ◌≤◌, ℕ, List, ap, arith, inl, replicate, subst, sym}
+use Rattle.std.proofs.Common.{◌∙◌, ◌+◌, ℕ, List, ap, arith, inl, replicate, subst, sym}
 use Rattle.duk_journal_copy.specs.InPart.{IsNoJournal, IsUnfinished}
 use Rattle.duk_service.specs.NewFile.{IsLeftInPart, IsWrittenAnew, KeepsNothingYet}
 use Rattle.duk_service.specs.declared.new_file.NewFile.{NewFile}

@@ -1,5 +1,7 @@
 pub mod CopyJournal
+pub mod FileEnd
 pub mod Files
+pub mod GrowJournal
 pub mod HostSize
 pub mod LeftRecords
 pub mod LogFiles

@@ -4,6 +4,7 @@ ghost use Rattle.std.specs.Prelude.{◌≡◌, ◌+◌, ◌*◌, ◌<◌, ◌≤
 ghost use Rattle.duk_store.specs.Disk.{HasFailed, PreservesBytes, PreservesDisk, StaysArmed};
 ghost use Rattle.duk_journal_copy.specs.declared.version.Version.TheVariants.{Two as VersionTwo};
 ghost use Rattle.duk_service.specs.LeftRecords.{HasFront, IsFront, layout_of, most_of_group, record_length};
+ghost use Rattle.duk_service.specs.inner.GrowJournal.{IsPartSeen};
 ghost use Rattle.duk_service.specs.inner.LeftRecords.{AreFollowersRead, AreKeptCounted, HasMark, IsBefore, IsFrontSeen, IsLastIn, IsLastOn, IsSeen, LacksMark, MayStand};
 
 use duk_journal::{OPEN, RECORD_LENGTH, contents_of_record, is_journal_header};
@@ -146,7 +147,7 @@ pub fn look_at<D: Disk>(disk: &mut D, layout: Layout) -> Result<Seen, StoreFault
 }
 
 /// Whether the first record of a disk is such as the layout begins with.
-fn has_front<D: Disk>(disk: &mut D, layout: Layout) -> Result<bool, StoreFault>
+pub(crate) fn has_front<D: Disk>(disk: &mut D, layout: Layout) -> Result<bool, StoreFault>
     requires inside { record_length layout ≤ (D.meaning.state_of disk.old).size }
     ensures seen { IfOk result (IsFrontSeen layout (D.meaning.state_of disk.new)) }
     ensures nature { PreservesDisk (D.meaning.state_of disk.old) (D.meaning.state_of disk.new) }
@@ -179,14 +180,19 @@ fn is_front(version: Version, first: &[u8]) -> bool
     }
 }
 
-/// The same of a disk of so many records, of which the first is such as the layout begins with.
-fn look_at_records<D: Disk>(disk: &mut D, layout: Layout, records: u64) -> Result<Seen, StoreFault>
+/// What so many records in front of a disk are seen to be, where all behind them are zeros. The first
+/// is such as the layout begins with.
+pub(crate) fn look_at_records<D: Disk>(
+    disk: &mut D,
+    layout: Layout,
+    records: u64,
+) -> Result<Seen, StoreFault>
     requires some { 1 ≤ records }
     requires front { (D.meaning.state_of disk.old).honest
         → HasFront layout (D.meaning.state_of disk.old).reads }
-    requires size { (D.meaning.state_of disk.old).size ≡ record_length layout * records }
+    requires size { record_length layout * records ≤ (D.meaning.state_of disk.old).size }
     requires fits { (D.meaning.state_of disk.old).size < 2 ^ 64 }
-    ensures seen { IfOk result (IsSeen layout (D.meaning.state_of disk.new)) }
+    ensures seen { IfOk result (IsPartSeen layout records (D.meaning.state_of disk.new)) }
     ensures nature { PreservesDisk (D.meaning.state_of disk.old) (D.meaning.state_of disk.new) }
     ensures arming { StaysArmed (D.meaning.state_of disk.old) (D.meaning.state_of disk.new) }
     ensures bytes { PreservesBytes (D.meaning.state_of disk.old) (D.meaning.state_of disk.new) }

@@ -3,7 +3,10 @@
 #![tactic(auto)]
 
 pub mod copy_journal;
+mod file_end;
 mod file_system;
+pub mod grow_journal;
+mod growable;
 mod left_records;
 mod line_file;
 mod log_files;
@@ -18,6 +21,7 @@ mod serve_journal;
 mod serve_journal_files;
 mod serve_log_files;
 
+pub use file_end::{FileEnd, RealEnd};
 pub use file_system::{FileFault, FileSystem, strip_return};
 pub use left_records::RecordFormat;
 pub use log_files::{Access, LogFiles};

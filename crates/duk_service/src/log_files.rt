@@ -4,12 +4,16 @@
 ghost use Rattle.std.proofs.Common.{rules};
 ghost use Rattle.std.specs.Prelude.{ℕ, ⊤, List, None, IfOk, OnErr, OnOk};
 ghost use Rattle.duk_io.specs.Sink.{IsHandedOn};
+ghost use Rattle.duk_service.specs.FileEnd.{IsEndOf};
 ghost use Rattle.duk_service.specs.HostSize.{IsSmall};
 ghost use Rattle.duk_service.specs.LogFiles.{AreLinesMade, AreNoLines, BeginsUnfinished, BeginsZero, DiskKnown, IsDisk, IsFolderSynced, IsFolderUnsynced, IsNoDisk, MakingKnown, MayOpen, unknown_making};
 
+use crate::file_end::{FileEnd, RealEnd};
 use crate::file_system::{is_regular, reason_of};
 use crate::line_file::{LineFile, make_line_file, remove_empty_file};
-use crate::new_files::{Begin, make_file, making_reason, open_file, remove_file, sync_folder_of};
+use crate::new_files::{
+    Begin, disk_of_end, make_file, making_reason, open_both, open_file, remove_file, sync_folder_of,
+};
 use crate::reason::Reason;
 use duk_io::Sink;
 use duk_store::{Disk, FileDisk, StoreFault};
@@ -41,6 +45,9 @@ pub trait LogFiles {
     /// The writers of lines to new files.
     type Lines: Sink + Drop;
 
+    /// The ends of files that are made longer.
+    type End: FileEnd;
+
     /// Which files may be opened to be written.
     ghost may_write: { Self → List ℕ → Type 0 };
 
@@ -63,6 +70,20 @@ pub trait LogFiles {
     fn open_to_read(&self, path: &str) -> Result<Self::Disk, StoreFault>
         ensures opened { IfOk result (IsDisk (disks self.now path.now)) }
         ensures refused { OnErr result (IsNoDisk (disks self.now path.now)) };
+
+    /// The same disk over a file that is to be made longer, with the file's end. Both are one open
+    /// file, whose lock is held as long as one of them lives. Refused with `Device` where it cannot be
+    /// opened to be read and written, or is locked.
+    fn open_to_grow(&self, path: &str) -> Result<(Self::Disk, Self::End), StoreFault>
+        requires { may_write self.now path.now }
+        ensures opened { IfOk result (λ both. IsDisk (disks self.now path.now) both.0) }
+        ensures end { IfOk result
+            (λ both. IsEndOf (Self.Disk.meaning.state_of both.0) (Self.End.state both.1)) }
+        ensures refused { OnErr result (IsNoDisk (disks self.now path.now)) };
+
+    /// The disk over the file of an end, as it is then, with the file's lock.
+    fn disk_of(&self, end: Self::End) -> Self::Disk
+        ensures { IsEndOf (Self.Disk.meaning.state_of result) (Self.End.state end) };
 
     /// Why the file under a path cannot be opened so as a disk, as the system tells who asks once
     /// more.
@@ -133,6 +154,8 @@ impl<R: Files<File = File>> LogFiles for R {
 
     type Lines = LineFile;
 
+    type End = RealEnd;
+
     ghost may_write = { λ _ _. ⊤ };
 
     ghost may_make = { λ _ _. ⊤ };
@@ -149,6 +172,14 @@ impl<R: Files<File = File>> LogFiles for R {
 
     fn open_to_read(&self, path: &str) -> Result<FileDisk, StoreFault> {
         open_file(self, path).map_err(|_| StoreFault::Device)
+    }
+
+    fn open_to_grow(&self, path: &str) -> Result<(FileDisk, RealEnd), StoreFault> {
+        open_both(self, path).map_err(|_| StoreFault::Device)
+    }
+
+    fn disk_of(&self, end: RealEnd) -> FileDisk {
+        disk_of_end(end)
     }
 
     fn make_disk(&self, path: &str, size: u64) -> Result<FileDisk, StoreFault> {

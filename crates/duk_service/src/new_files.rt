@@ -4,6 +4,7 @@
 
 ghost use Rattle.std.specs.Prelude.{◌≡◌, IfOk};
 
+use crate::file_end::RealEnd;
 use crate::file_system::is_regular;
 use crate::reason::Reason;
 use duk_store::{FileDisk, FileMedium, MediumDisk, ReadAhead};
@@ -24,6 +25,33 @@ pub(crate) fn open_file<R: Files<File = File>>(files: &R, path: &str) -> io::Res
     file.try_lock()?;
     let size = file.metadata()?.len();
     Ok(disk_over(file, size))
+}
+
+/// A disk over the file under a path, and the file's end, which are one open file: it is opened to be
+/// read and written, and this process alone has locked it. A pipe, which would be waited for, a device
+/// and a folder are not opened.
+pub(crate) fn open_both<R: Files<File = File>>(
+    files: &R,
+    path: &str,
+) -> io::Result<(FileDisk, RealEnd)> {
+    if !is_regular(files, path) {
+        return Err(io::Error::from(ErrorKind::InvalidInput));
+    }
+    let file = OpenOptions::new().read(true).write(true).open(files, path)?;
+    file.try_lock()?;
+    let size = file.metadata()?.len();
+    let read = file.try_clone()?;
+    Ok((disk_over(read, size), RealEnd { file, size }))
+}
+
+/// The disk over the file of an end. Where the file does not tell how many bytes it has, the disk has
+/// none.
+pub(crate) fn disk_of_end(end: RealEnd) -> FileDisk {
+    let size = match end.file.metadata() {
+        Ok(metadata) => metadata.len(),
+        Err(_) => 0,
+    };
+    disk_over(end.file, size)
 }
 
 /// A disk over an open file of so many bytes.

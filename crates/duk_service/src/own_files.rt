@@ -78,7 +78,7 @@ fn fault_in<D: Disk>(disk: &mut D, format: RecordFormat) -> Option<OpenFault>
 /// The version of the journal that left the bytes of a disk, where one did.
 ///
 /// Refused with `Device` where a device step failed.
-fn version_of<D: Disk>(disk: &mut D) -> Result<Option<Version>, StoreFault>
+pub(crate) fn version_of<D: Disk>(disk: &mut D) -> Result<Option<Version>, StoreFault>
     ensures version { IfOk result (IsVersionSeen (D.meaning.state_of disk.new)) }
     ensures only_read { IsOnlyRead (D.meaning.state_of disk.old) (D.meaning.state_of disk.new) }
     ensures failed { IfErr result

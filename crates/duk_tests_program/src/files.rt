@@ -5,12 +5,13 @@ ghost use Rattle.std.specs.Option.{option_map};
 ghost use Rattle.std.specs.Prelude.{◌≡◌, ⊤, IfErr, IfOk, None, Some, false};
 ghost use Rattle.duk_arguments.specs.Request.{Written};
 ghost use Rattle.duk_program.specs.Own.{MayUseOwn};
+ghost use Rattle.duk_service.specs.FileEnd.{unknown_end};
 ghost use Rattle.duk_service.specs.LogFiles.{unknown_making};
 ghost use Rattle.duk_service.specs.declared.file_system.FileFault.TheVariants.{NoMemory};
 
 use crate::commands::arguments_of;
 use duk_program::{FileFault, FileSystem, LogFiles, Reason, run_program};
-use duk_service::Access;
+use duk_service::{Access, FileEnd};
 use duk_store::{MemDisk, StoreFault};
 use duk_tests_support::files::BANK;
 use duk_tests_support::frames::{FIRST_REPLY, FIRST_REQUEST};
@@ -71,10 +72,27 @@ fn copy_of(alloc: Global, bytes: &[u8]) -> Result<Vec<u8>, FileFault>
     Vec::from_slice(alloc, bytes).map_err(|_| FileFault::NoMemory)
 }
 
+/// The end of no file: none can be made longer.
+enum NoEnd {}
+
+impl FileEnd for NoEnd {
+    ghost state = { λ _. unknown_end };
+
+    fn append(&mut self, _bytes: &[u8]) -> Result<(), StoreFault> {
+        match *self {}
+    }
+
+    fn sync(&mut self) -> Result<(), StoreFault> {
+        match *self {}
+    }
+}
+
 impl LogFiles for EveryFile {
     type Disk = MemDisk;
 
     type Lines = Vec<u8>;
+
+    type End = NoEnd;
 
     ghost may_write = { λ _ _. ⊤ };
 
@@ -96,6 +114,14 @@ impl LogFiles for EveryFile {
 
     fn open_to_read(&self, path: &str) -> Result<MemDisk, StoreFault> {
         self.open_disk(path)
+    }
+
+    fn open_to_grow(&self, _path: &str) -> Result<(MemDisk, NoEnd), StoreFault> {
+        Err(StoreFault::Device)
+    }
+
+    fn disk_of(&self, end: NoEnd) -> MemDisk {
+        match end {}
     }
 
     fn opening_reason(&self, _path: &str, _access: Access) -> Reason {
@@ -170,6 +196,8 @@ impl LogFiles for Banks {
 
     type Lines = Vec<u8>;
 
+    type End = NoEnd;
+
     ghost may_write = { λ _ _. ⊤ };
 
     ghost may_make = { λ _ _. ⊤ };
@@ -186,6 +214,14 @@ impl LogFiles for Banks {
 
     fn open_to_read(&self, path: &str) -> Result<MemDisk, StoreFault> {
         self.open_disk(path)
+    }
+
+    fn open_to_grow(&self, _path: &str) -> Result<(MemDisk, NoEnd), StoreFault> {
+        Err(StoreFault::Device)
+    }
+
+    fn disk_of(&self, end: NoEnd) -> MemDisk {
+        match end {}
     }
 
     fn opening_reason(&self, _path: &str, _access: Access) -> Reason {

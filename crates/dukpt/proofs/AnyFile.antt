@@ -11,6 +11,7 @@ all (Some path) = tt
 
 any_written : (command : CommandName) (asked : Written) → MayWriteOwn (λ path. ⊤) command asked
 any_written name.Serve asked = (all (value_in (codes "log") asked), all (value_in (codes "journal") asked))
+any_written name.GrowJournal asked = tt
 any_written name.Issue asked = tt
 any_written _ asked = tt
 

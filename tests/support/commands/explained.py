@@ -312,6 +312,8 @@ CONSTANT = {
     "serve: read failed": Explanation("input", "a read failed", "frames"),
     "serve: input ends in a frame": Explanation("input", "a part of a frame", "whole frames"),
     "serve: frame too long": Explanation("input", "a length above 62", "frames of requests"),
+    "journal: cannot grow": Explanation("journal", "a write or a sync failed, or too many records",
+                                        "a device with room for RECORDS more, of 32 bytes each"),
     "write failed": NO_ROOM,
     "script: write failed": NO_ROOM,
     "serve: write failed": NO_ROOM,

@@ -107,6 +107,7 @@ fn unopened_reason<S: LogFiles>(files: &S, about: &Request<'_>) -> Option<Reason
 {
     match about.command() {
         CommandName::CopyJournal => Some(files.opening_reason(about.text("OLD"), Access::Read)),
+        CommandName::GrowJournal => Some(files.opening_reason(about.text("FILE"), Access::Write)),
         CommandName::Issue => Some(files.opening_reason(about.text("ledger"), Access::Write)),
         CommandName::Serve => match about.value("log") {
             Some(path) => Some(files.opening_reason(path, Access::Write)),

@@ -4,7 +4,8 @@ use crate::explaining::arguments::{
     counter, iksn, issue_count, key, refused, text, walk_count, wraps,
 };
 use crate::explaining::files::{
-    failed, longer, memory, name_of, of_script, of_serve, output, under, unmade, unopened, unread,
+    failed, longer, memory, name_of, of_script, of_serve, old_version, output, under, ungrown,
+    unmade, unopened, unread,
 };
 use crate::explaining::paths::File;
 use crate::explaining::seen::{Found, Seen, words};
@@ -19,6 +20,7 @@ use duk_commands::{BatchFault, Fault as CommandFault, FindFault};
 use duk_components::ComponentFault;
 use duk_pin::PinFault;
 use duk_service::copy_journal::CopyJournalFault;
+use duk_service::grow_journal::GrowJournalFault;
 use duk_service::new_file::NewFileFault;
 use duk_service::{FileFault, Reason, RecordFormat};
 use duk_show::ShowFault;
@@ -46,6 +48,15 @@ pub(crate) fn of_fault(about: About<'_, '_>, why: &Fault) -> Seen {
         Fault::Identity(IdentityFault::Unread) => random_device(),
         Fault::NewFile(_, NewFileFault::RecordsRefused) => refused(about, "RECORDS"),
         Fault::NewFile(format, NewFileFault::Unmade) => unmade("FILE", name_of(*format)),
+        Fault::GrowJournal(GrowJournalFault::RecordsRefused) => refused(about, "RECORDS"),
+        Fault::GrowJournal(GrowJournalFault::Unopened) => {
+            unopened("FILE", "journal", RecordFormat::Journal)
+        }
+        Fault::GrowJournal(GrowJournalFault::Failed) => failed("FILE", RecordFormat::Journal),
+        Fault::GrowJournal(GrowJournalFault::OldVersion) => {
+            old_version("FILE", RecordFormat::Journal)
+        }
+        Fault::GrowJournal(GrowJournalFault::Ungrown) => ungrown(),
         Fault::CopyJournal(CopyJournalFault::Unopened) => {
             unopened("OLD", "journal", RecordFormat::Journal)
         }

@@ -61,9 +61,7 @@ pub(crate) fn of_serve(why: ServeFault) -> Seen {
             unopened(name_of(format), name_of(format), format)
         }
         ServeFault::NotOpened(format, OpenFault::OldVersion) => {
-            under(name_of(format), name_of(format), Found::Words("version 1")).wanted(
-                "one of version 2; make it by dukpt copy-journal OLD NEW",
-            )
+            old_version(name_of(format), format)
         }
         ServeFault::NotOpened(format, OpenFault::Failed | OpenFault::Foreign)
         | ServeFault::Host(format, HostFault::Store(_) | HostFault::Stopped)
@@ -125,10 +123,24 @@ pub(crate) fn failed(argument: &'static str, format: RecordFormat) -> Seen {
     })
 }
 
+/// A journal of version 1.
+pub(crate) fn old_version(argument: &'static str, format: RecordFormat) -> Seen {
+    under(argument, name_of(format), Found::Words("version 1")).wanted(
+        "one of version 2; make it by dukpt copy-journal OLD NEW",
+    )
+}
+
 /// A file that is not made.
 pub(crate) fn unmade(argument: &'static str, name: &'static str) -> Seen {
     under(argument, name, Found::Unmade(Reason::Other)).wanted(
         "a name that no file has, in a folder with room",
+    )
+}
+
+/// A journal that is not made larger, or only in part.
+pub(crate) fn ungrown() -> Seen {
+    words("journal", "a write or a sync failed, or too many records").wanted(
+        "a device with room for RECORDS more, of 32 bytes each",
     )
 }
 

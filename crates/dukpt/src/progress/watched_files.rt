@@ -10,7 +10,7 @@ use crate::progress::telling::{Errors, Telling};
 use crate::progress::watched_disk::WatchedDisk;
 use crate::progress::written::Written;
 use duk_program::{FileFault, FileSystem, LogFiles, Reason};
-use duk_service::Access;
+use duk_service::{Access, RealEnd};
 use duk_store::{FileDisk, StoreFault};
 use std::alloc::Global;
 use std::fs::File;
@@ -88,6 +88,8 @@ impl<R: Files<File = File>> LogFiles for Watched<'_, R> {
 
     type Lines = Counted<<R as LogFiles>::Lines, Errors>;
 
+    type End = RealEnd;
+
     ghost may_write = { λ _ _. ⊤ };
 
     ghost may_make = { λ _ _. ⊤ };
@@ -110,6 +112,17 @@ impl<R: Files<File = File>> LogFiles for Watched<'_, R> {
             Ok(disk) => Ok(WatchedDisk::over(disk, None)),
             Err(why) => Err(why),
         }
+    }
+
+    fn open_to_grow(&self, path: &str) -> Result<(Self::Disk, RealEnd), StoreFault> {
+        match self.files.open_to_grow(path) {
+            Ok((disk, end)) => Ok((WatchedDisk::over(disk, None), end)),
+            Err(why) => Err(why),
+        }
+    }
+
+    fn disk_of(&self, end: RealEnd) -> Self::Disk {
+        WatchedDisk::over(self.files.disk_of(end), None)
     }
 
     fn make_disk(&self, path: &str, size: u64) -> Result<Self::Disk, StoreFault> {

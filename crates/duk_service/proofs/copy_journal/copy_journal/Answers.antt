@@ -1,7 +1,7 @@
 use Rattle.std.proofs.Common.{◌≡◌, ◌∙◌, ◌+◌, ◌*◌, ◌≤◌, ℕ, ap, subst, sym}
 use Rattle.duk_journal_copy.specs.Version.{format_of, journal_records_meaning}
 use Rattle.duk_journal_host.specs.Check.{IsChecked}
-use Rattle.duk_service.specs.CopyJournal.{IsNoSize, copy_size}
+use Rattle.duk_service.specs.CopyJournal.{HasCopiedJournal, IsCopyJournalRefused, IsNoSize, copy_size}
 use Rattle.duk_service.specs.inner.CopyJournal.{CopyNotMade, IsCopyMade, IsNotChecked}
 use Rattle.duk_service.proofs.CopiedJournal.{copy_room, has_copied, kept_inside, no_size, not_checked, not_copied, not_opened}
 use Rattle.duk_service.proofs.Results.{if_err, on_ok}
@@ -15,7 +15,9 @@ returns-in-Err-clause-refused g c =
 pub returns-in-Err-check-clause-refused : goal.returns-in-Err-check-clause-refused
 returns-in-Err-check-clause-refused g c =
     let meaning = g.S.Disk.Disk.meaning in
-    not_checked c.args.identity meaning _ _ c.in-Ok.journal.version c.in-Ok.journal.disk c.check.new.records c.in-Err-check.why c.in-Ok.ensures.opened
+    let known = g.S.LogFiles.disks c.args.files.now c.args.old.now in
+    let making = g.S.LogFiles.making c.args.files.now c.args.new.now in
+    not_checked c.args.identity meaning known making c.in-Ok.journal.version c.in-Ok.journal.disk c.check.new.records c.in-Err-check.why c.in-Ok.ensures.opened
     (subst (λ records. IsNotChecked (journal_records_meaning meaning) records c.check.new.records c.in-Err-check.why) c.new-records.ensures.records c.in-Err-check.ensures.refused)
 
 pub make_new-requires-clause-inside : goal.make_new-requires-clause-inside
@@ -48,7 +50,8 @@ returns-clause-made g c =
     let same = c.check.ensures.version ∙ ap (λ records. records.format) c.new-records.ensures.records in
     let checked = subst (λ records. IsChecked (journal_records_meaning meaning) records c.check.new.records found) c.new-records.ensures.records c.in-Ok-check.ensures.checked in
     let size_is : c.in-Some.size ≡ copy_size version (meaning.state_of opened).size = c.in-Some.ensures.found ∙ ap (copy_size version) c.size-size.ensures in
-    on_ok _ _ c.make_new.result
+    on_ok (IsCopyMade (record { version = version; checked = found }) c.args.identity meaning making c.in-Some.size (meaning.state_of disk))
+    (HasCopiedJournal c.args.identity meaning known making) c.make_new.result
     (λ copy. has_copied c.args.identity meaning known making version opened c.check.new.records disk c.make_new.new.old found c.in-Ok.ensures.opened checked same c.into_disk-disk.ensures.disk
     c.make_new.ensures.nature c.make_new.ensures.bytes c.into_disk-disk.ensures.one
     (subst (λ (size : ℕ). IsCopyMade (record { version = version; checked = found }) c.args.identity meaning making size (meaning.state_of disk)) size_is copy))
@@ -66,14 +69,15 @@ returns-clause-refused g c =
     let same = c.check.ensures.version ∙ ap (λ records. records.format) c.new-records.ensures.records in
     let checked = subst (λ records. IsChecked (journal_records_meaning meaning) records c.check.new.records found) c.new-records.ensures.records c.in-Ok-check.ensures.checked in
     let size_is : c.in-Some.size ≡ copy_size version (meaning.state_of opened).size = c.in-Some.ensures.found ∙ ap (copy_size version) c.size-size.ensures in
-    if_err _ _ c.make_new.result
+    if_err (CopyNotMade (record { version = version; checked = found }) c.args.identity meaning making c.in-Some.size (meaning.state_of disk) (meaning.state_of c.make_new.new.old))
+    (IsCopyJournalRefused c.args.identity meaning known making) c.make_new.result
     (λ why refused. not_copied c.args.identity meaning known making version opened c.check.new.records disk c.make_new.new.old found c.in-Ok.ensures.opened checked same c.into_disk-disk.ensures.disk
     why c.make_new.ensures.bytes c.make_new.ensures.nature c.into_disk-disk.ensures.one
     (subst (λ (size : ℕ). CopyNotMade (record { version = version; checked = found }) c.args.identity meaning making size (meaning.state_of disk) (meaning.state_of c.make_new.new.old) why) size_is refused))
     c.make_new.ensures.refused
 
-pub returns-in_default-2-clause-refused : goal.returns-in_default-2-clause-refused
-returns-in_default-2-clause-refused g c =
+pub returns-in_default-size_of_copy-clause-refused : goal.returns-in_default-size_of_copy-clause-refused
+returns-in_default-size_of_copy-clause-refused g c =
     let meaning = g.S.Disk.Disk.meaning in
     let known = g.S.LogFiles.disks c.args.files.now c.args.old.now in
     let making = g.S.LogFiles.making c.args.files.now c.args.new.now in
@@ -85,4 +89,4 @@ returns-in_default-2-clause-refused g c =
     let checked = subst (λ records. IsChecked (journal_records_meaning meaning) records c.check.new.records found) c.new-records.ensures.records c.in-Ok-check.ensures.checked in
     no_size c.args.identity meaning known making version opened c.check.new.records disk disk found c.in-Ok.ensures.opened checked same c.into_disk-disk.ensures.disk
     (keeps_none (meaning.state_of disk)) (bytes_none (meaning.state_of disk))
-    (subst (λ (size : ℕ). IsNoSize (copy_size version size)) c.size-size.ensures c.in_default-2.ensures.none)
+    (subst (λ (size : ℕ). IsNoSize (copy_size version size)) c.size-size.ensures c.in_default-size_of_copy.ensures.none)

@@ -1,4 +1,4 @@
-use Rattle.std.proofs.Common.{◌≡◌, ◌+◌, ◌*◌, arith, subst, sym}
+use Rattle.std.proofs.Common.{arith, subst, sym}
 use Rattle.std.specs.Prelude.{OnOk}
 use Rattle.duk_service.specs.NewFile.{IsLeftInPart, IsWrittenAnew}
 use Rattle.duk_service.specs.declared.new_file.NewFile.{NewFile}
