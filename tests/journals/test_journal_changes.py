@@ -8,7 +8,8 @@ from typing import Iterable, Sequence, TypeVar
 
 from ..support.commands.shown import journal_ended
 from ..support.formats import opened_journal
-from ..support.formats.checked_journal import HEADER, SAID, journal_of, room_in, with_check_sums
+from ..support.formats.checked_journal import (
+    HEADER, SAID, blank, journal_of, room_in, with_check_sums)
 from ..support.formats.journal_file import entries_in
 from ..support.formats.journal_records import OPEN, RECORD, Entry, Group, starts_of
 from ..support.formats.opened_journal import Refusal, is_found, opened
@@ -30,6 +31,8 @@ class ChangeCase(JournalCase):
 
     # So many of a test's changes are tried.
     cases = 1 << 20
+    # Whether it takes journals of version 1 too.
+    takes_old = True
 
     def setUp(self) -> None:
         super().setUp()
@@ -138,6 +141,15 @@ class Changes:
         places = (*range(HEADER), *range(first, first + 2 * RECORD))
         self.change(groups, self.some([(at, 1 << bit) for at in places for bit in range(8)]))
 
+    def test_no_entries(self: ChangeCase) -> None:
+        """Each byte of the header of a journal that keeps nothing. Without the gate of its header it is one of
+        version 1 that keeps nothing, which no service takes."""
+        image = blank(ROOM, self.identity)
+        with QuickRuns(self.program) as runs:
+            for at in self.some(range(HEADER)):
+                changed, what = flipped(image, at, 1 << self.chance.randrange(8)), f"byte {at}"
+                self.assertEqual(self.is_refused(runs, changed, what), at > 0 or not self.takes_old, what)
+
     def test_four_bytes(self: ChangeCase) -> None:
         """Changes of up to four bytes that follow one another, of what a check sum is of."""
         groups = self.groups(True)
@@ -229,7 +241,7 @@ class Changes:
 class Served(Changes, ChangeCase):
     """A service, to which all that is kept is sent again, with something new behind it."""
 
-    weight = 10
+    weight, takes_old = 10, False
 
     def is_refused(self, runs: QuickRuns, image: bytes, what: str) -> bool:
         wanted = opened(image)
