@@ -1,5 +1,5 @@
 """What docs/DEPLOYMENT.md has an operator type over a journal, as it stands there: to bring one of version 1
-to version 2, and to append records. And what services and hosts make of one of version 1."""
+to version 2, and to add records. And what services and hosts make of one of version 1."""
 from __future__ import annotations
 
 import os
@@ -18,7 +18,7 @@ from ..support.service.journal_case import JOURNAL_FAILED, OLD_VERSION, ON_JOURN
 from ..support.service.reversals import undoing
 from .test_copy_journals import copied
 
-# Where the document has the journal; how many records it appends, and how many are enough here.
+# Where the document has the journal; how many records it adds, and how many are enough here.
 FOLDER, FILE = "/var/lib/dukpt", "payments.journal"
 MORE, FEWER = 1_000_000, 5_000
 # In the place of a command: it notes its words, and does what they say behind options.
@@ -78,17 +78,17 @@ class Documented(UpgradeCase):
         self.assertEqual(len(self.kept()), len(self.frames))
 
     def test_more_records(self) -> None:
-        """Zeros that are appended to a full journal are room, and change nothing else."""
+        """A full journal has more room then, and nothing else of it changes."""
         self.make_journal(3)
         self.check_file(payments(9), what="a full one")
         kept, before = self.kept(), self.journal.read_bytes()
-        commands = re.findall(r"`(head [^`]+)`", DEPLOYMENT.read_text())
+        commands = re.findall(r"`(dukpt grow-journal [^`]+)`", DEPLOYMENT.read_text())
         self.assertEqual(len(commands), 1)
-        self.assertIn(f" {RECORD * MORE} ", commands[0])
+        self.assertTrue(commands[0].endswith(f" {MORE}"), commands)
         self.journal.rename(self.home / FILE)
-        self.bash(commands[0].replace(str(RECORD * MORE), str(RECORD * FEWER)))
+        self.bash(commands[0].replace(str(MORE), str(FEWER)))
         (self.home / FILE).rename(self.journal)
-        self.assert_bytes(before + bytes(RECORD * FEWER), "appended")
+        self.assert_bytes(before + bytes(RECORD * FEWER), "made larger")
         # A sparse file would take its room later, or find none.
         self.assertGreaterEqual(512 * self.journal.stat().st_blocks, RECORD * FEWER)
         found = judged(payments(9), kept, room_in(self.journal.read_bytes()))
