@@ -73,6 +73,7 @@ fn copy_of(alloc: Global, bytes: &[u8]) -> Result<Vec<u8>, FileFault>
 }
 
 /// The end of no file: none can be made longer.
+#[derive(Drop)]
 enum NoEnd {}
 
 impl FileEnd for NoEnd {
