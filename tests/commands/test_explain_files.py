@@ -16,7 +16,8 @@ from ..support.commands.explained import (
     A_FOLDER, A_JOURNAL, A_LOG, A_NEW_FILE, IN_USE, MISSING, MOST_PATH, NO_FOLDER, NO_PERMISSION, OTHER,
     READABLE, READ_BEFORE, THERE, told_path)
 from ..support.formats.bank import BANK, LONGEST
-from ..support.formats.checked_journal import blank, journal_of
+from ..support.formats.checked_journal import HEADER, blank, journal_of
+from ..support.formats.journal_records import RECORD as JOURNAL_RECORD
 from ..support.formats.log_file import RECORD, log_image, record
 from ..support.models.model_journal import payments_of_all
 from ..support.program import Ended, Limits, spoken
@@ -34,9 +35,11 @@ READERS = (
     (["show", "log"], "log: cannot read", "WHAT"),
     (["show", "journal"], "journal: cannot read", "WHAT"),
 )
-LOCKERS = ((["serve", "bank.toml", "--log"], "log: cannot open", "log", A_LOG),
-           (["serve", "bank.toml", "--journal"], "journal: cannot open", "journal", A_JOURNAL),
-           (ISSUE, "ledger: cannot open", "ledger", A_LOG))
+# Behind the name of the file stand these words.
+LOCKERS = ((["serve", "bank.toml", "--log"], [], "log: cannot open", "log", A_LOG),
+           (["serve", "bank.toml", "--journal"], [], "journal: cannot open", "journal", A_JOURNAL),
+           (["grow-journal"], ["3"], "journal: cannot open", "journal", A_JOURNAL),
+           (ISSUE, [], "ledger: cannot open", "ledger", A_LOG))
 
 
 def at_fault(called: str, path: str) -> str:
@@ -63,9 +66,9 @@ class Refused(ExplainCase):
 
     def refused_lock(self, name: str, reason: str, front: Sequence[str] = ()) -> None:
         """A file to be opened and locked."""
-        for words, fault, called, wanted in LOCKERS:
+        for words, behind, fault, called, wanted in LOCKERS:
             line = f"{at_fault(called, name)}: {reason}; wanted: {wanted}"
-            self.explained([*words, name], fault, line, front=front)
+            self.explained([*words, name, *behind], fault, line, front=front)
 
     def test_reasons(self) -> None:
         (self.home / "loop").symlink_to("loop")
@@ -348,7 +351,7 @@ class Makers(ExplainCase):
 
     def setUp(self) -> None:
         super().setUp()
-        self.write("journal", bytes(3 * JOURNAL_RECORD))
+        self.write("journal", blank(3))
         self.write("there", b"there")
         (self.home / "folder").mkdir()
         (self.home / "link").symlink_to("there")
@@ -387,12 +390,12 @@ class Makers(ExplainCase):
 
     def test_no_room(self) -> None:
         """It can be made, and does not get its size, or its bytes: no reason is known, and none is left."""
-        for size in (0, 1, 3 * JOURNAL_RECORD - 1):
+        for size in (0, 1, HEADER + 3 * JOURNAL_RECORD - 1):
             self.not_made("new", OTHER, limits=Limits(file_size=size))
             self.not_made("folder/new", OTHER, limits=Limits(file_size=size))
         small = SmallFiles(self.folder(), 1)
         self.addCleanup(small.close)
-        self.write("journal", bytes(2 * PAGE))
+        self.write("journal", blank(2 * PAGE // JOURNAL_RECORD))
         new = os.fspath(small.folder / "new")
         for words in (["new-journal", new, str(2 * PAGE // JOURNAL_RECORD)],
                       ["copy-journal", "journal", new]):

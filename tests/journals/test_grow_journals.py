@@ -5,6 +5,7 @@ from __future__ import annotations
 import fcntl
 import os
 import signal
+import threading
 from collections import Counter
 from pathlib import Path
 
@@ -316,6 +317,28 @@ class LeftInPart(GrowCase):
             at = it.span.stop
         self.assertEqual(at, len(self.image) + RECORD * MANY)
         self.journal.write_bytes(self.image)
+
+    def meanwhile(self, call: str, image: bytes) -> Ended:
+        """How it ends where its call waits, and another process makes the file this one then."""
+        other = threading.Timer(0.5, self.journal.write_bytes, (image,))
+        other.start()
+        ended, calls = self.calls(f"inject={call}:delay_enter=1500000")
+        other.join()
+        self.assertIn(call, [it.name for it in calls])
+        return ended
+
+    def test_another_one_before_it_is_locked(self) -> None:
+        """What another process appended until then stays: how large the file is, is asked behind the lock."""
+        more = journal_of(alone(payments_of_all(payments(9))), 3)
+        self.assertGreater(len(more), len(self.image))
+        self.assert_output(self.meanwhile("flock", more), b"", "", "another one")
+        self.assert_bytes(grown(more, MANY), "another one")
+        self.journal.write_bytes(self.image)
+
+    def test_another_size_behind_it(self) -> None:
+        """Where the file has not all of the zeros once they are synced, that is told."""
+        self.assert_output(self.meanwhile("fdatasync", self.image), b"", CANNOT_GROW, "another size")
+        self.assert_bytes(self.image, "another size")
 
     def test_each_call_that_fails(self) -> None:
         """Where it fails, and each later one of its name, that is told; what is left is gone on with."""
