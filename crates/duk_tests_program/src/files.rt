@@ -5,14 +5,16 @@ ghost use Rattle.std.specs.Option.{option_map};
 ghost use Rattle.std.specs.Prelude.{◌≡◌, ⊤, IfErr, IfOk, None, Some, false};
 ghost use Rattle.duk_arguments.specs.Request.{Written};
 ghost use Rattle.duk_program.specs.Own.{MayUseOwn};
-ghost use Rattle.duk_service.specs.FileEnd.{unknown_end};
+ghost use Rattle.duk_service.specs.FileEnd.{IsEndOf};
 ghost use Rattle.duk_service.specs.LogFiles.{unknown_making};
 ghost use Rattle.duk_service.specs.declared.file_system.FileFault.TheVariants.{NoMemory};
+ghost use Rattle.duk_store.specs.MemoryDisk.{memory_disk_state};
+ghost use Rattle.duk_tests_program.specs.Ends.{failing_end};
 
 use crate::commands::arguments_of;
 use duk_program::{FileFault, FileSystem, LogFiles, Reason, run_program};
 use duk_service::{Access, FileEnd};
-use duk_store::{MemDisk, StoreFault};
+use duk_store::{Disk, MemDisk, StoreFault};
 use duk_tests_support::files::BANK;
 use duk_tests_support::frames::{FIRST_REPLY, FIRST_REQUEST};
 use std::alloc::Global;
@@ -72,19 +74,32 @@ fn copy_of(alloc: Global, bytes: &[u8]) -> Result<Vec<u8>, FileFault>
     Vec::from_slice(alloc, bytes).map_err(|_| FileFault::NoMemory)
 }
 
-/// The end of no file: none can be made longer.
+/// The end of a file of which each step fails.
 #[derive(Drop)]
-enum NoEnd {}
+struct FailingEnd {
+    disk: MemDisk,
+}
 
-impl FileEnd for NoEnd {
-    ghost state = { λ _. unknown_end };
+impl FailingEnd {
+    /// The disk over the file. Each step of it fails too.
+    fn into_disk(self) -> MemDisk
+        ensures { IsEndOf (memory_disk_state result) (failing_end self.disk) }
+    {
+        let mut disk = self.disk;
+        disk.arm(0);
+        disk
+    }
+}
+
+impl FileEnd for FailingEnd {
+    ghost state = { λ end. failing_end end.disk };
 
     fn append(&mut self, _bytes: &[u8]) -> Result<(), StoreFault> {
-        match *self {}
+        Err(StoreFault::Device)
     }
 
     fn sync(&mut self) -> Result<(), StoreFault> {
-        match *self {}
+        Err(StoreFault::Device)
     }
 }
 
@@ -93,7 +108,7 @@ impl LogFiles for EveryFile {
 
     type Lines = Vec<u8>;
 
-    type End = NoEnd;
+    type End = FailingEnd;
 
     ghost may_write = { λ _ _. ⊤ };
 
@@ -117,12 +132,12 @@ impl LogFiles for EveryFile {
         self.open_disk(path)
     }
 
-    fn open_to_grow(&self, _path: &str) -> Result<(MemDisk, NoEnd), StoreFault> {
+    fn open_to_grow(&self, _path: &str) -> Result<(MemDisk, FailingEnd), StoreFault> {
         Err(StoreFault::Device)
     }
 
-    fn disk_of(&self, end: NoEnd) -> MemDisk {
-        match end {}
+    fn disk_of(&self, end: FailingEnd) -> MemDisk {
+        end.into_disk()
     }
 
     fn opening_reason(&self, _path: &str, _access: Access) -> Reason {
@@ -197,7 +212,7 @@ impl LogFiles for Banks {
 
     type Lines = Vec<u8>;
 
-    type End = NoEnd;
+    type End = FailingEnd;
 
     ghost may_write = { λ _ _. ⊤ };
 
@@ -217,12 +232,12 @@ impl LogFiles for Banks {
         self.open_disk(path)
     }
 
-    fn open_to_grow(&self, _path: &str) -> Result<(MemDisk, NoEnd), StoreFault> {
+    fn open_to_grow(&self, _path: &str) -> Result<(MemDisk, FailingEnd), StoreFault> {
         Err(StoreFault::Device)
     }
 
-    fn disk_of(&self, end: NoEnd) -> MemDisk {
-        match end {}
+    fn disk_of(&self, end: FailingEnd) -> MemDisk {
+        end.into_disk()
     }
 
     fn opening_reason(&self, _path: &str, _access: Access) -> Reason {
