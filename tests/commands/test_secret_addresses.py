@@ -4,7 +4,8 @@ Two runs differ in their keys alone, and in the MACs and enciphered PIN blocks t
 place the texts of their keys have both a digit or both a letter, and so can be read alike. A service is
 watched from its first read of requests on: before that it makes key blocks of its configuration's keys and
 opens them again, once, by tables. Of commands that print keys, a digit that is written may be looked up in a
-table of the sixteen digits.
+table of the sixteen digits. A journal's check sum is looked up by bytes of what is kept, so of a request's
+MAC, which comes in a frame.
 """
 from __future__ import annotations
 
@@ -266,12 +267,15 @@ class Services(ProgramCase):
         return found
 
     def test_replies(self) -> None:
-        """Under one zone key, by which the table of cards asks for a PIN, no address depends on another."""
+        """Under one zone key, by which the table of cards asks for a PIN, no address depends on another, but
+        those of the check sums: the MACs of requests are kept."""
         one, other = banks(self.chance)
         other = Bank(ZONE.sub(ZONE.search(one.text)[0], other.text), other.bdk)
         seed = self.chance.random()
         found = self.served(ON_JOURNAL, (one, given_to(one, seed)), (other, given_to(other, seed)))
-        self.assertTrue(found.is_nothing, found)
+        self.assertTrue(found.is_check_sums_alone, found)
+        # A payment and a reversal have a check sum over the eight bytes of a MAC each.
+        self.assertLessEqual(found.check_sums.total(), MAC * (PAYMENTS + REVERSALS), found)
 
     def test_journal(self) -> None:
         """Whatever comes, no branch depends on a key, and no address but one of a table of a cipher: the

@@ -31,14 +31,26 @@ PIECE, STEP = 1 << 16, 1 << 13
 PROCESS, REMARK = re.compile(rb"(?<=^SYSCALL\[)\d+"), re.compile(rb"^(?:==|--)", re.MULTILINE)
 # The first read of standard input.
 READS_INPUT = re.compile(rb"^SYSCALL\[\d+,\d+\]\(0\) sys_read \( 0,", re.MULTILINE)
-# A byte that is read.
-BYTE = re.compile(rb" L [0-9a-f]+,1\n")
+# A byte that is read, and four.
+BYTE, FOUR = (re.compile(rb" L [0-9a-f]+,%d\n" % it) for it in (1, 4))
 # Tables by which a digit is looked up that is written.
 DIGITS = (b"0123456789ABCDEF", b"0123456789abcdef")
 
 
+def left_by(byte: int) -> int:
+    """What the generator of CRC-32 leaves of a byte and eight zero bits, the lowest bit first."""
+    for _ in range(8):
+        byte = byte >> 1 ^ 0xEDB88320 * (byte & 1)
+    return byte
+
+
+# The table of the check sums of a journal.
+CHECK_SUMS = b"".join(left_by(it).to_bytes(4, "little") for it in range(256))
+
+
 class Symbols:
-    """The functions of a program, and its tables of digits, where they stand under valgrind."""
+    """The functions of a program, and its tables of digits and of check sums, where they stand under
+    valgrind."""
 
     def __init__(self, program: Program) -> None:
         demand("nm", "readelf")
@@ -49,12 +61,15 @@ class Symbols:
         self.places, self.names = zip(*sorted(found))
         self.main = re.compile(rb"^I  %08x," % dict((name, place) for place, name in found)["main"],
                                re.MULTILINE)
-        self.end, self.digits, data = 0, [], program.path.read_bytes()
+        self.end, data = 0, program.path.read_bytes()
+        self.digits: list[range] = []
+        self.check_sums: list[range] = []
         for line in re.findall(r"^\s*LOAD\s+(.*)$", head, re.MULTILINE):
             offset, place, _, size = (int(it, 16) for it in line.split()[:4])
             self.end = max(self.end, base + place + size)
-            for at in places_in(data[offset : offset + size], DIGITS):
-                self.digits.append(range(base + place + at, base + place + at + 16))
+            for tables, parts in ((self.digits, DIGITS), (self.check_sums, (CHECK_SUMS,))):
+                for at in places_in(data[offset : offset + size], parts):
+                    tables.append(range(base + place + at, base + place + at + len(parts[0])))
 
     def function(self, line: bytes) -> str:
         """The function that has the instruction of a line, if there was one."""
@@ -64,8 +79,16 @@ class Symbols:
 
     def are_digits(self, *lines: bytes) -> bool:
         """Whether each of these lines reads a byte of the same table of digits."""
-        return all(map(BYTE.fullmatch, lines)) and any(
-            all(place_of(it) in digits for it in lines) for digits in self.digits)
+        return all(map(BYTE.fullmatch, lines)) and are_in_one(self.digits, lines)
+
+    def are_check_sums(self, *lines: bytes) -> bool:
+        """Whether each of these lines reads a word of the same table of check sums."""
+        return all(map(FOUR.fullmatch, lines)) and are_in_one(self.check_sums, lines)
+
+
+def are_in_one(tables: Sequence[range], lines: Sequence[bytes]) -> bool:
+    """Whether the addresses of these lines are all of one table."""
+    return any(all(place_of(it) in table for it in lines) for table in tables)
 
 
 def said(*words: Word) -> str:
@@ -138,25 +161,31 @@ class Trace:
 @dataclass
 class Found:
     """Where two runs differ: of each function, how often an access to data has another address, and how
-    often that is one of a table of digits; and the function in which their ways part, where the
-    comparison ends. So many lines of their traces were compared."""
+    often that is one of a table of digits, or of the table of check sums; and the function in which their
+    ways part, where the comparison ends. So many lines of their traces were compared."""
 
     addresses: Counter[str] = field(default_factory=Counter)
     digits: Counter[str] = field(default_factory=Counter)
+    check_sums: Counter[str] = field(default_factory=Counter)
     parted: Optional[str] = None
     lines: int = 0
 
     @property
     def is_digits_alone(self) -> bool:
-        return not self.addresses and self.parted is None
+        return not self.addresses and not self.check_sums and self.parted is None
+
+    @property
+    def is_check_sums_alone(self) -> bool:
+        return not self.addresses and not self.digits and self.parted is None
 
     @property
     def is_nothing(self) -> bool:
-        return self.is_digits_alone and not self.digits
+        return self.is_digits_alone and self.is_check_sums_alone
 
     def __str__(self) -> str:
         parts = [f"{count:,} differ in {name}" for name, count in self.addresses.most_common()]
         parts += [f"{count:,} in digits of {name}" for name, count in self.digits.most_common()]
+        parts += [f"{count:,} in check sums of {name}" for name, count in self.check_sums.most_common()]
         if self.parted is not None:
             parts.append(f"the ways part in {self.parted}")
         return f"of {self.lines:,} addresses {', '.join(parts) or 'none differs'}"
@@ -213,6 +242,8 @@ class Comparison:
             self.part(last)
         elif self.symbols.are_digits(*lines):
             self.found.digits[self.symbols.function(last)] += 1
+        elif self.symbols.are_check_sums(*lines):
+            self.found.check_sums[self.symbols.function(last)] += 1
         else:
             self.found.addresses[self.symbols.function(last)] += 1
 
