@@ -103,48 +103,54 @@ class Recipes(ProgramCase):
     def test_components(self) -> None:
         self.run_recipe(2)
 
-    def test_many_items(self) -> None:
+    def test_components_of_a_local_master_key(self) -> None:
         self.run_recipe(3)
 
-    def test_a_frame(self) -> None:
+    def test_many_items(self) -> None:
         self.run_recipe(4)
 
-    def test_a_reversal_and_its_reply(self) -> None:
+    def test_a_frame(self) -> None:
         self.run_recipe(5)
 
-    def test_a_trace(self) -> None:
+    def test_a_reversal_and_its_reply(self) -> None:
         self.run_recipe(6)
 
-    def test_a_wrong_mac(self) -> None:
+    def test_a_trace(self) -> None:
         self.run_recipe(7)
 
-    def test_a_key_block_that_does_not_open(self) -> None:
+    def test_a_wrong_mac(self) -> None:
         self.run_recipe(8)
 
-    def test_a_variant(self) -> None:
+    def test_a_key_block_that_does_not_open(self) -> None:
         self.run_recipe(9)
 
-    def test_enciphered_data(self) -> None:
+    def test_a_variant(self) -> None:
         self.run_recipe(10)
 
-    def test_a_translated_pin_block(self) -> None:
+    def test_enciphered_data(self) -> None:
         self.run_recipe(11)
 
-    def test_a_walk(self) -> None:
+    def test_a_translated_pin_block(self) -> None:
         self.run_recipe(12)
 
-    def test_a_request_and_its_answer(self) -> None:
+    def test_a_walk(self) -> None:
         self.run_recipe(13)
 
-    def test_a_file_of_frames(self) -> None:
+    def test_a_request_and_its_answer(self) -> None:
         self.run_recipe(14)
 
-    def test_a_lost_terminal(self) -> None:
+    def test_a_file_of_frames(self) -> None:
         self.run_recipe(15)
+
+    def test_a_larger_journal(self) -> None:
+        self.run_recipe(16)
+
+    def test_a_lost_terminal(self) -> None:
+        self.run_recipe(17)
 
     def test_there_are_no_others(self) -> None:
         """The last one is of the page, and has no command."""
-        self.assertEqual([bool(commands) for _, commands in recipes()], [True] * 17 + [False])
+        self.assertEqual([bool(commands) for _, commands in recipes()], [True] * 18 + [False])
 
     def test_no_secret_is_written_by_a_command(self) -> None:
         """In no document, and not even by a command that is no process: it would stand in the shell's

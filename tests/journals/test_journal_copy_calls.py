@@ -17,7 +17,7 @@ from typing import Iterator, Optional, Sequence
 
 from ..support.formats.checked_journal import HEADER, checked, identity_of, journal_of, plain_of
 from ..support.formats.journal_file import DamagedJournal, payments_in
-from ..support.formats.journal_records import RECORD, Group
+from ..support.formats.journal_records import BOTH_KINDS, RECORD, Group, wrong_bytes
 from ..support.models.model_journal import payments_of_all
 from ..support.program import SECONDS, Ended, Word
 from ..support.service.client import payments
@@ -141,8 +141,9 @@ class Calls(CallCase):
 
 
 class Changing(CallCase):
-    """A journal that is read otherwise the second time, as a file after a failed sync may be: what is
-    written is no copy then. It keeps more than a read-ahead takes, of one piece and of two."""
+    """A journal that is read otherwise the second time, as a file after a failed sync may be: a record of
+    it has no contents then, which is told of the journal, or what is written is no copy. It keeps more
+    than a read-ahead takes, of one piece and of two."""
 
     weight = 4
     # So many seconds the lock of the copy takes, behind the check of the journal.
@@ -156,11 +157,12 @@ class Changing(CallCase):
         for kept in (self.FEW, self.MANY):
             image = self.make_journal(kept + 100, alone(payments_of_all(payments(kept))))
             for place in (0, kept // 2, kept - 1):
-                for what, record in (("zeros", bytes(RECORD)), ("closed", b"\x00"),
-                                     ("of another kind", b"\x01\x07")):
+                for what, record, fault in (("zeros", bytes(RECORD), JOURNAL_FAILED),
+                                            ("closed", b"\x00", CANNOT_MAKE),
+                                            ("of another kind", b"\x01\x07", JOURNAL_FAILED)):
                     at = HEADER + RECORD * place
                     changed = image[:at] + record + image[at + len(record) :]
-                    self.assert_refused(image, changed, f"record {place} of {kept} is {what}")
+                    self.assert_refused(image, changed, f"record {place} of {kept} is {what}", fault)
 
     def test_a_number_twice(self) -> None:
         """Each record is that of a journal, and no host comes up over them all."""
@@ -173,19 +175,22 @@ class Changing(CallCase):
         """Of a record in the middle, of which one bit or each is another. Where that leaves a journal, it
         keeps as many as before, of which one has another number, amount or MAC."""
         image = self.make_journal(self.FEW + 9, alone(payments_of_all(payments(self.FEW))))
+        record = slice(RECORD * (self.FEW // 2), RECORD * (self.FEW // 2 + 1))
         wrong = []
         for at in range(RECORD):
             for bits in (1 << self.chance.randrange(8), 0xFF):
                 changed = bytearray(plain_of(image) or b"")
-                changed[RECORD * (self.FEW // 2) + at] ^= bits
-                wrong.append((f"byte {at} with {bits:02X}", checked(bytes(changed))))
+                changed[record.start + at] ^= bits
+                has_contents = not wrong_bytes(bytes(changed[record]), False, BOTH_KINDS)
+                wrong.append((f"byte {at} with {bits:02X}", checked(bytes(changed)),
+                              CANNOT_MAKE if has_contents else JOURNAL_FAILED))
         with ThreadPoolExecutor(self.AT_ONCE) as pool:
             ends = [*pool.map(lambda it: self.copied_elsewhere(image, it[1]), wrong)]
-        kept = sum(is_kept(changed) for _, changed in wrong)
+        kept = sum(is_kept(changed) for _, changed, _ in wrong)
         self.tells(f"{len(wrong)} changes, of which {kept} leave a journal")
         self.assertGreater(kept, RECORD // 2)
-        for (what, _), (ended, made) in zip(wrong, ends):
-            self.assert_output(ended, b"", CANNOT_MAKE, what)
+        for (what, _, fault), (ended, made) in zip(wrong, ends):
+            self.assert_output(ended, b"", fault, what)
             self.assertEqual(made, [], what)
 
     def copied_elsewhere(self, image: bytes, changed: bytes) -> tuple[Ended, list[Path]]:
@@ -203,8 +208,8 @@ class Changing(CallCase):
         made = (self.made / "copy").read_bytes()
         self.assertEqual(made, copied(image, made))
 
-    def assert_refused(self, image: bytes, changed: bytes, what: str) -> None:
-        self.assert_output(self.copied_from(image, changed), b"", CANNOT_MAKE, what)
+    def assert_refused(self, image: bytes, changed: bytes, what: str, fault: str = CANNOT_MAKE) -> None:
+        self.assert_output(self.copied_from(image, changed), b"", fault, what)
         self.assertEqual([*self.made.iterdir()], [], what)
 
     def copied_from(self, image: bytes, changed: bytes, home: Optional[Path] = None) -> Ended:

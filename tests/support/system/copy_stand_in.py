@@ -84,12 +84,13 @@ class Copy:
             fcntl.flock(self.old, fcntl.LOCK_EX | fcntl.LOCK_NB)
         self.file: Optional[int] = self.make() if way is CopyWay.MADE_FIRST else None
         image = b"".join(self.read())
-        identity, plain = identity_of(image), plain_of(image)
-        assert identity is not None and plain is not None
+        identity, plain, size = identity_of(image), plain_of(image), os.fstat(self.old).st_size
+        if identity is None or plain is None:
+            # It is of version 1.
+            identity, plain, size = 0, image, size + HEADER
         kept = kept_bytes(plain)
         self.kept = HEADER + kept
-        size = os.fstat(self.old).st_size - HEADER
-        self.image = checked(plain[:kept].ljust(size, b"\x00"), identity ^ 1)
+        self.image = checked(plain[:kept].ljust(size - HEADER, b"\x00"), identity ^ 1)
         if way is CopyWay.OLD_WRITTEN:
             os.pwrite(self.old, image[:1], 0)
         if self.file is None:
