@@ -16,7 +16,7 @@ from typing import Iterator, Optional
 
 from ..commands.shown import journal_ended
 from ..formats.checked_journal import CHECK, HEADER, checked, identity_of, journal_of, with_check_sums
-from ..formats.left_files import JOURNAL, OLD_JOURNAL, look
+from ..formats.left_files import JOURNAL, OLD_JOURNAL, Looks, look
 from ..formats.opened_journal import Refusal, copied
 from .stand_in import Table, read_table
 
@@ -140,9 +140,10 @@ class Journal:
         return data
 
     def read_groups(self) -> None:
-        held = self.read(0, min(HEADER, self.size))
+        looks = Looks(JOURNAL, self.size, self.read)
+        held = looks.read(0, min(HEADER, self.size))
         while len(held) < self.size:
-            held += self.read(len(held), min(AHEAD, self.size - len(held)))
+            held += looks.read(len(held), min(AHEAD, self.size - len(held)))
         self.identity, plain = identity_by(self.way, held) or 0, plain_by(self.way, held)
         if plain is None and OLD_JOURNAL.is_left(held):
             raise OldVersion
