@@ -9,7 +9,7 @@ ghost use Rattle.duk_service.specs.FileEnd.{IsEndOf};
 ghost use Rattle.duk_service.specs.LogFiles.{unknown_making};
 ghost use Rattle.duk_service.specs.declared.file_system.FileFault.TheVariants.{NoMemory};
 ghost use Rattle.duk_store.specs.MemoryDisk.{memory_disk_state};
-ghost use Rattle.duk_tests_program.specs.Ends.{failing_end};
+ghost use Rattle.duk_tests_program.specs.inner.Ends.{failing_end};
 
 use crate::commands::arguments_of;
 use duk_program::{FileFault, FileSystem, LogFiles, Reason, run_program};

@@ -1,4 +1,4 @@
--- Ends of files that stand in for real ones.
+-- Ends of files that stand in for real ones: this project's own.
 use Rattle.duk_store.specs.MemoryDisk.{CouldLeave, IsHonestDisk, MemoryDisk}
 use Rattle.duk_service.specs.FileEnd.{EndState}
 
