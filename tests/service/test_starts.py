@@ -2,12 +2,13 @@
 that it has then; and a copy of such a journal."""
 from __future__ import annotations
 
-import filecmp
 import os
 import time
 from typing import Sequence
 
+from ..support.formats.checked_journal import CHECK, HEADER, identity_of, with_check_sums
 from ..support.formats.journal_file import LAST_PART
+from ..support.formats.journal_records import RECORD
 from ..support.formats.large_stores import Rounds, numbers_in_rounds, payments_in_rounds
 from ..support.models.model_journal import USED
 from ..support.program import Word
@@ -26,6 +27,8 @@ NUMBERS, MOST_TIMES = 1000, 10
 ALL, SECONDS, BYTES, OF_THE_LATEST = 10_000_000, 5.0, 120_000_000, 105_000_000
 # So many numbers of each terminal are five million payments.
 VERY_MANY = 5000
+# Of so many records of a copy the check sum is computed.
+SOME = 1000
 # A shorter time is no share of that, but may be what the start of any process takes.
 LEAST_SECONDS = 1.5
 # A log of a million numbers may take so much, where they are in order, and where every second number
@@ -69,7 +72,22 @@ class OverJournals(StartCase):
         ended = self.program.run("copy-journal", "journal", "copy", folder=self.home)
         self.tells(f"copied within {time.monotonic() - began:.2f} s")
         self.assert_output(ended, b"", "", "a copy of very many")
-        self.assertTrue(filecmp.cmp(self.journal, self.home / "copy", shallow=False))
+        self.assert_copied()
+
+    def assert_copied(self) -> None:
+        """The copy has the same entries in the same groups, under an identity of its own. Of some records
+        the check sums are computed."""
+        old, new = self.journal.read_bytes(), (self.home / "copy").read_bytes()
+        self.assertEqual(len(new), len(old))
+        its, theirs = identity_of(old), identity_of(new)
+        assert its is not None and theirs is not None
+        self.assertNotEqual(its, theirs)
+        said = [it for it in range(RECORD) if it not in range(RECORD)[CHECK]]
+        self.assertEqual([it for it in said if old[HEADER + it :: RECORD] != new[HEADER + it :: RECORD]], [])
+        for place in self.chance.sample(range(1, len(old) // RECORD), SOME):
+            record = slice(RECORD * place, RECORD * (place + 1))
+            self.assertEqual(with_check_sums(new[record], theirs, place),
+                             with_check_sums(old[record], its, place), f"record {place}")
 
     def times_as_long(self) -> int:
         """How many times that a program may take: Rattle's own compiler optimizes less than LLVM."""
