@@ -27,7 +27,7 @@ OF_STREAMS = {"write failed", "script: write failed", "serve: write failed", "se
               "serve: input ends in a frame", "serve: frame too long", "batch: items refused",
               "batch: read failed", "out of memory", "log: too long", "journal: too long",
               "config: too long", "script: too long", "ledger: failed", "padding: cannot read",
-              "journal: cannot grow"}
+              "identity: cannot read", "journal: cannot grow"}
 # Faults as the manual page has them, whose rows are no command of this folder; and what else stands
 # there for a part of a line.
 ELSEWHERE = {"batch: ..", "padding: ..", "IKSN: issued", "IKSN: not issued"}
