@@ -9,7 +9,7 @@ import { hex } from "./hexadecimal.js";
 const MARK = [0x01, 0xd5, 0x44, 0x55, 0x4b, 0x0d, 0x0a, 0x1a, 1, 2, 0, 0, 0, 0, 0, 32];
 const IDENTITY = 16;
 const REST = 24;
-// In a header and in a record, where the check sum begins.
+// In a header and in a record, where the check sum begins. Its lowest byte stands first.
 const HEADER_CHECK = 28;
 const CHECK = 27;
 const SAID = 1;
@@ -35,7 +35,7 @@ export function hasHeader(bytes) {
   if (bytes.length < RECORD || MARK.some((byte, at) => bytes[at] !== byte)) return false;
   for (let at = REST; at < HEADER_CHECK; at += 1) if (bytes[at] !== 0) return false;
   const sum = (summed(ALL, bytes, 0, HEADER_CHECK) ^ ALL) >>> 0;
-  return new DataView(bytes.buffer, bytes.byteOffset).getUint32(HEADER_CHECK) === sum;
+  return new DataView(bytes.buffer, bytes.byteOffset).getUint32(HEADER_CHECK, true) === sum;
 }
 
 /** Whether one of the bytes of a record, which begins here, is not zero. */
@@ -55,7 +55,7 @@ function plainOf(bytes) {
     if (!isUsed(plain, at)) continue;
     placed.setUint32(4, 1 + at / RECORD);
     const sum = summed(summed(front, place, 0, 8), plain, at + SAID, at + CHECK) ^ ALL;
-    view.setUint32(at + CHECK, view.getUint32(at + CHECK) ^ sum);
+    view.setUint32(at + CHECK, view.getUint32(at + CHECK, true) ^ sum, true);
   }
   return plain;
 }

@@ -13,7 +13,7 @@
 enum { RECORD = 32, BODY = RECORD - 1, PIECE = 2048, MOST_FOLLOWERS = 4095 };
 /* In a header: what stands before the identity, that, and what the check sum is of. In a body: what the
    check sum is of. */
-enum { FRONT = 16, IDENTITY = 8, HEADED = 28, SAID = 26, WORD = 8 };
+enum { FRONT = 16, IDENTITY = 8, HEADED = 28, SAID = 26, WORD = 8, CHECK = 4 };
 
 static const uint8_t codes[] = {0, 14, 30, 51, 55};
 static const uint8_t front[FRONT] = {0x01, 0xD5, 0x44, 0x55, 0x4B, 0x0D, 0x0A, 0x1A, 1, 2, [15] = RECORD};
@@ -53,13 +53,20 @@ static void write_number(uint64_t number, size_t length, uint8_t *bytes)
         bytes[i] = (uint8_t)number;
 }
 
+/* The lowest byte of a check sum stands first. */
+static void write_check(uint32_t check, uint8_t bytes[CHECK])
+{
+    for (int i = 0; i < CHECK; i++, check >>= 8)
+        bytes[i] = (uint8_t)check;
+}
+
 /* Whether a record is the header of a journal. */
 static int is_header(const uint8_t record[RECORD])
 {
     uint8_t written[RECORD] = {0};
     memcpy(written, front, FRONT);
     memcpy(written + FRONT, record + FRONT, IDENTITY);
-    write_number(crc32(written, HEADED), RECORD - HEADED, written + HEADED);
+    write_check(crc32(written, HEADED), written + HEADED);
     return memcmp(written, record, RECORD) == 0;
 }
 
@@ -85,7 +92,7 @@ static void write_body(const struct journal *journal, size_t entries, const stru
     write_number(payment->amount, 4, body + 13);
     body[17] = payment->code;
     memcpy(body + 18, payment->mac, BLOCK);
-    write_number(check_of(journal, 1 + entries, body), 4, body + SAID);
+    write_check(check_of(journal, 1 + entries, body), body + SAID);
 }
 
 /* The payment of the next record, of which so many follow in its group. */

@@ -25,8 +25,10 @@ declare -gA _dukpt_arguments=(
     [serve]="CONFIG --log=FILE --journal=FILE --explain -h --help"
     [new-log]="FILE RECORDS --explain --json --progress -h --help"
     [new-journal]="FILE RECORDS --explain --json --progress -h --help"
+    [new-ledger]="FILE RECORDS --explain --json --progress -h --help"
     [grow-journal]="FILE RECORDS --explain --json --progress -h --help"
     [copy-journal]="OLD NEW --explain --json --progress -h --help"
+    [copy-ledger]="OLD NEW --explain --json --progress -h --help"
     [help]="COMMAND"
 )
 _dukpt_options="--explain --json --progress -h --help -V --version"
@@ -83,7 +85,7 @@ _dukpt() {
         [[ $word == --*=* ]] && word=${word#*=}
         case ${words[1]}:$(_dukpt_value "${words[@]}") in
             *:COMMAND) offered=${!_dukpt_arguments[*]} ;;
-            *:KIND) offered="frame block image log journal" ;;
+            *:KIND) offered="frame block image log journal ledger" ;;
             *:CONFIG | *:SCRIPT | *:FILE | *:OLD | *:NEW) _dukpt_files "$word"; return ;;
             unwrap:BLOCK) ;;
             # A secret may stand in a file.

@@ -141,8 +141,8 @@ complete -c dukpt -n '__fish_seen_subcommand_from unwrap' -l json -d 'Print JSON
 complete -c dukpt -n '__fish_seen_subcommand_from unwrap' -l progress -d 'Tell how far it is'
 complete -c dukpt -n '__fish_seen_subcommand_from unwrap' -s h -l help -d 'Print help'
 
-complete -c dukpt -n __fish_use_subcommand -a show -d 'KIND WHAT: print the fields of a frame, a key block, an image, a log or a journal'
-complete -c dukpt -n '__fish_seen_subcommand_from show' -a 'frame block image log journal (__dukpt_secret)' -F
+complete -c dukpt -n __fish_use_subcommand -a show -d 'KIND WHAT: print the fields of a frame, a key block, an image, a log, a journal or a ledger'
+complete -c dukpt -n '__fish_seen_subcommand_from show' -a 'frame block image log journal ledger (__dukpt_secret)' -F
 complete -c dukpt -n '__fish_seen_subcommand_from show' -l show -d 'Print the keys of an image, or a PIN block'
 complete -c dukpt -n '__fish_seen_subcommand_from show' -l key -x -a '(__dukpt_secret)' -d 'BDK: test the MAC of a frame under BDK'
 complete -c dukpt -n '__fish_seen_subcommand_from show' -l initial -d 'Take BDK as the initial key'
@@ -195,7 +195,7 @@ complete -c dukpt -n '__fish_seen_subcommand_from serve' -l journal -r -F -d 'FI
 complete -c dukpt -n '__fish_seen_subcommand_from serve' -l explain -d 'Say more of a fault'
 complete -c dukpt -n '__fish_seen_subcommand_from serve' -s h -l help -d 'Print help'
 
-complete -c dukpt -n __fish_use_subcommand -a new-log -d 'FILE RECORDS: make a new log or ledger'
+complete -c dukpt -n __fish_use_subcommand -a new-log -d 'FILE RECORDS: make a new log'
 complete -c dukpt -n '__fish_seen_subcommand_from new-log' -F
 complete -c dukpt -n '__fish_seen_subcommand_from new-log' -l explain -d 'Say more of a fault'
 complete -c dukpt -n '__fish_seen_subcommand_from new-log' -l json -d 'Print JSON'
@@ -207,6 +207,13 @@ complete -c dukpt -n '__fish_seen_subcommand_from new-journal' -l explain -d 'Sa
 complete -c dukpt -n '__fish_seen_subcommand_from new-journal' -l json -d 'Print JSON'
 complete -c dukpt -n '__fish_seen_subcommand_from new-journal' -l progress -d 'Tell how far it is'
 complete -c dukpt -n '__fish_seen_subcommand_from new-journal' -s h -l help -d 'Print help'
+
+complete -c dukpt -n __fish_use_subcommand -a new-ledger -d 'FILE RECORDS: make a new ledger'
+complete -c dukpt -n '__fish_seen_subcommand_from new-ledger' -F
+complete -c dukpt -n '__fish_seen_subcommand_from new-ledger' -l explain -d 'Say more of a fault'
+complete -c dukpt -n '__fish_seen_subcommand_from new-ledger' -l json -d 'Print JSON'
+complete -c dukpt -n '__fish_seen_subcommand_from new-ledger' -l progress -d 'Tell how far it is'
+complete -c dukpt -n '__fish_seen_subcommand_from new-ledger' -s h -l help -d 'Print help'
 
 complete -c dukpt -n __fish_use_subcommand -a grow-journal -d 'FILE RECORDS: make a journal larger'
 complete -c dukpt -n '__fish_seen_subcommand_from grow-journal' -F
@@ -222,5 +229,12 @@ complete -c dukpt -n '__fish_seen_subcommand_from copy-journal' -l json -d 'Prin
 complete -c dukpt -n '__fish_seen_subcommand_from copy-journal' -l progress -d 'Tell how far it is'
 complete -c dukpt -n '__fish_seen_subcommand_from copy-journal' -s h -l help -d 'Print help'
 
+complete -c dukpt -n __fish_use_subcommand -a copy-ledger -d 'OLD NEW: copy a ledger of version 1'
+complete -c dukpt -n '__fish_seen_subcommand_from copy-ledger' -F
+complete -c dukpt -n '__fish_seen_subcommand_from copy-ledger' -l explain -d 'Say more of a fault'
+complete -c dukpt -n '__fish_seen_subcommand_from copy-ledger' -l json -d 'Print JSON'
+complete -c dukpt -n '__fish_seen_subcommand_from copy-ledger' -l progress -d 'Tell how far it is'
+complete -c dukpt -n '__fish_seen_subcommand_from copy-ledger' -s h -l help -d 'Print help'
+
 complete -c dukpt -n __fish_use_subcommand -a help -d 'COMMAND: print help'
-complete -c dukpt -n '__fish_seen_subcommand_from help' -a 'derive walk initial issue registers kcv lmk mac data pin unpin translate wrap unwrap show request reply find run serve new-log new-journal grow-journal copy-journal help'
+complete -c dukpt -n '__fish_seen_subcommand_from help' -a 'derive walk initial issue registers kcv lmk mac data pin unpin translate wrap unwrap show request reply find run serve new-log new-journal new-ledger grow-journal copy-journal copy-ledger help'

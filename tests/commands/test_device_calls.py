@@ -9,7 +9,7 @@ import re
 from typing import Sequence
 
 from ..support.commands.everyday_rows import BASE, FIRST
-from ..support.commands.issuing import bytes_of, numbers_from
+from ..support.commands.issuing import Ledger, bytes_of, numbers_from
 from ..support.formats.bank import BANK, SCRIPT
 from ..support.formats.journal_records import RECORD
 from ..support.formats.log_file import RECORD as NUMBER
@@ -25,8 +25,9 @@ from .test_issue import LINE_LENGTH, passed_over
 
 # What of the ways to open a file says whether it is read, written, made, cut or begun anew.
 WAYS = re.compile(r"O_(?:RDONLY|WRONLY|RDWR|CREAT|EXCL|TRUNC|APPEND)")
-# So many bytes a journal is read and written at once, and so many a small read takes.
-PIECE, AHEAD = 1 << 16, 4096
+# So many bytes a journal is read and written at once, so many a ledger is read, and so many a small
+# read takes.
+PIECE, LEDGER_PIECE, AHEAD = 1 << 16, 4096, 4096
 # A file that is read to its end is first asked for so many bytes, and for twice as many each time.
 FIRST_READ = 1 << 13
 # The line of a reference is read in such pieces.
@@ -100,51 +101,65 @@ class Device:
             end = start
 
     def start_log(self, kept: int) -> None:
-        self.look_at(kept, NUMBER)
-        self.read_log(kept)
-
-    def read_log(self, kept: int) -> None:
         """All records are read, each for itself, and then those with numbers once more."""
+        self.look_at(kept, NUMBER)
         self.sync()
         for records in (self.size // NUMBER, kept):
             for place in range(records):
                 self.read(NUMBER * place, NUMBER * place + NUMBER)
 
-    def use(self, place: int) -> None:
+    def use(self, place: int, record: int = NUMBER) -> None:
         """The body of a record is written and synced, and then its gate."""
-        at = NUMBER * place
-        for first, end in ((at + 1, at + NUMBER), (at, at + 1)):
+        at = record * place
+        for first, end in ((at + 1, at + record), (at, at + 1)):
             self.write(first, end)
             self.sync()
 
-    def look_at_journal(self, kept: int) -> None:
-        """The header is read; then as of a log, but that of the last open record, where that is not the
-        header, it is read how many follow it in its group."""
+    def look_at_headed(self, kept: int, has_groups: bool) -> None:
+        """The header is read; then as of a log, but that of the last open record of a journal, if
+        that is not the header, it is read how many follow it in its group."""
         front = RECORD * (1 + kept)
         self.read(0, RECORD)
         self.read_back(self.size, front)
         self.read_back(front, front)
-        if kept:
+        if kept and has_groups:
             self.read(RECORD * kept + 2, RECORD * kept + 4)
         self.read_back(front, front)
 
+    def look_at_journal(self, kept: int) -> None:
+        self.look_at_headed(kept, True)
+
+    def look_at_ledger(self, kept: int) -> None:
+        self.look_at_headed(kept, False)
+
     def start_journal(self) -> None:
+        self.start_headed(PIECE)
+
+    def start_ledger(self) -> None:
+        self.start_headed(LEDGER_PIECE)
+
+    def start_headed(self, piece: int) -> None:
         """The header is read, and then all records once, in pieces."""
         self.sync()
         self.read(0, RECORD)
-        self.read(RECORD, self.size)
+        for at in range(RECORD, self.size, piece):
+            self.read(at, min(at + piece, self.size))
 
     def begin(self) -> None:
-        """A file that is made begins as no journal does before it gets its size."""
-        self.write(0, 1)
+        """A file that is made begins as no journal and no ledger does before it gets its size. Of its
+        header the first bytes are right by then, but for the second one, and the sixteenth, which is read."""
+        self.write(0, 17)
         self.sync()
         self.lengthen()
+        self.read(15, 16)
+        self.write(2, 15)
+        self.write(16, RECORD)
 
     def lengthen(self) -> None:
         self.steps.append(f"ftruncate {self.name} {self.size}")
         self.sync()
 
-    def finish_journal(self) -> None:
+    def finish(self) -> None:
         """What was written is read at its front, and the second byte is written last."""
         self.sync()
         self.read(0, 2)
@@ -153,7 +168,7 @@ class Device:
 
 
 class OneByOne(Device):
-    """One that takes nothing ahead, so that each record of a log is a call."""
+    """One that takes nothing ahead."""
 
     ahead = 0
 
@@ -246,8 +261,8 @@ class DeviceCalls(JournalCase):
             for out in ((), OUT):
                 self.check_issue(kept, room, kept - 2, ["--skip-issued"], out, passed=2)
 
-    def test_a_ledger_read_one_by_one(self) -> None:
-        """One whose records are a call each is found, and so is a sync that a line lacks."""
+    def test_a_ledger_read_otherwise(self) -> None:
+        """A read of too few bytes is found, and so is a sync that a line lacks."""
         for device, syncs in ((OneByOne, True), (Device, False)):
             with self.assertRaisesRegex(AssertionError, "Lists differ"):
                 self.check_issue(2, 300, 2, ["--skip-issued"], OUT, device=device, syncs=syncs)
@@ -258,15 +273,15 @@ class DeviceCalls(JournalCase):
         """Three numbers and those that are passed over, of the order's places from `first` on, over a
         ledger that keeps the first of them."""
         numbers = numbers_from(int(FIRST, 16), kept)
-        self.make("ledger", log_image(bytes_of(numbers), room))
+        self.make("ledger", Ledger(room, numbers).image)
         steps: list[str] = []
-        ledger = device(steps, "ledger", NUMBER * room)
-        ledger.look_at(kept, NUMBER)
+        ledger = device(steps, "ledger", RECORD * (1 + room))
+        ledger.look_at_ledger(kept)
         steps += [f"openat {COPY} {MADE}", *folder_synced()] if out else []
-        ledger.read_log(kept)
+        ledger.start_ledger()
         for place in range(kept, kept + 3):
             if "--again" not in options:
-                ledger.use(place)
+                ledger.use(1 + place, RECORD)
             if out:
                 steps += [f"write {COPY} {LINE_LENGTH}", *[f"fdatasync {COPY}"] * syncs]
         begin = serial_text(int(FIRST, 16) + first * SPENT)
@@ -294,22 +309,30 @@ class DeviceCalls(JournalCase):
             self.make("secret", data.encode())
             self.check(words, "secret", read_line("secret", size, is_ended), what=f"{len(data)} bytes")
 
-    def test_new_journal(self) -> None:
-        for records in (1, 7, 5000):
+    def test_new_headed_files(self) -> None:
+        """Of a journal, and of a ledger."""
+        for command, records in (("new-journal", 1), ("new-journal", 7), ("new-journal", 5000),
+                                 ("new-ledger", 1), ("new-ledger", 5000)):
             steps: list[str] = []
-            made = Device(steps, "copy", RECORD * (1 + records), MADE)
+            made = Device(steps, COPY, RECORD * (1 + records), MADE)
             made.begin()
-            made.write(2, RECORD)
             made.write(RECORD, RECORD * (1 + records))
-            made.finish_journal()
+            made.finish()
             self.make("journal", b"")
-            self.check(["new-journal", "copy", str(records)], "copy", [*steps, *folder_synced()])
+            self.check([command, COPY, str(records)], COPY, [*steps, *folder_synced()])
 
     def test_copy_journal(self) -> None:
         for kept, room in ((0, 3), (1, 1), (3, 7), (200, 400), (2100, 5000)):
             self.make("journal", b"")
             self.make_journal(room, alone(payments_of_all(payments(kept))))
             self.check(["copy-journal", "journal", "copy"], "journal", copied(kept, room),
+                       what=f"{kept} of {room}")
+
+    def test_copy_ledger(self) -> None:
+        for kept, room in ((0, 3), (1, 1), (3, 8), (200, 400), (2100, 5000)):
+            numbers = numbers_from(int(FIRST, 16), kept)
+            self.make("ledger", log_image(bytes_of(numbers), room))
+            self.check(["copy-ledger", "ledger", COPY], "ledger", copied_ledger(kept, room),
                        what=f"{kept} of {room}")
 
     def test_shown(self) -> None:
@@ -319,6 +342,9 @@ class DeviceCalls(JournalCase):
             self.make_journal(room, alone(payments_of_all(payments(kept))))
             self.check(["show", "journal", "journal"], "journal",
                        read_whole("journal", RECORD * (1 + room)))
+            self.make("ledger", Ledger(room, numbers_from(int(FIRST, 16), kept)).image)
+            self.check(["show", "ledger", "ledger"], "ledger",
+                       read_whole("ledger", RECORD * (1 + room)))
 
     def test_run(self) -> None:
         """Its stores are in memory."""
@@ -329,6 +355,26 @@ class DeviceCalls(JournalCase):
             for more in ([], ["--journal"]):
                 self.check(["run", "bank.toml", name, *more], "bank.toml",
                            [*read_whole("bank.toml", len(BANK)), *read_whole(name, size)])
+
+
+def copied_ledger(kept: int, room: int) -> list[str]:
+    """The ledger is looked at and read before the copy is made. Its numbers are read once more, and each
+    is a write."""
+    steps: list[str] = []
+    size, end = RECORD * (1 + room), RECORD * (1 + kept)
+    old = Device(steps, "ledger", NUMBER * room, "O_RDONLY")
+    old.read(0, NUMBER)
+    old.look_at(kept, NUMBER)
+    old.sync()
+    old.read(0, NUMBER * room)
+    new = Device(steps, COPY, size, MADE)
+    new.begin()
+    for place in range(kept):
+        old.read(NUMBER * place, NUMBER * (1 + place))
+        new.write(RECORD * (1 + place), RECORD * (2 + place))
+    new.write(end, size)
+    new.finish()
+    return [*steps, *folder_synced()]
 
 
 def copied(kept: int, room: int) -> list[str]:
@@ -342,13 +388,11 @@ def copied(kept: int, room: int) -> list[str]:
     old.start_journal()
     new = Device(steps, "copy", size, MADE)
     new.begin()
-    old.read(0, RECORD)
-    new.write(2, RECORD)
     for at in range(RECORD, end, PIECE):
         old.read(at, min(at + PIECE, end))
         new.write(at, min(at + PIECE, end))
     new.write(end, size)
-    new.finish_journal()
+    new.finish()
     new.start_journal()
     return [*steps, *folder_synced()]
 

@@ -26,7 +26,8 @@ from .test_show import Damaged
 OF_STREAMS = {"write failed", "script: write failed", "serve: write failed", "serve: read failed",
               "serve: input ends in a frame", "serve: frame too long", "batch: items refused",
               "batch: read failed", "out of memory", "log: too long", "journal: too long",
-              "config: too long", "script: too long", "ledger: failed", "padding: cannot read",
+              "ledger: too long", "config: too long", "script: too long", "ledger: failed",
+              "padding: cannot read",
               "identity: cannot read", "journal: cannot grow"}
 # Faults as the manual page has them, whose rows are no command of this folder; and what else stands
 # there for a part of a line.
@@ -277,7 +278,8 @@ class Secrets(ExplainCase):
     def test_rows_and_their_secrets(self) -> None:
         """No written row has a secret of its command in its explanation, but as the name of a file."""
         for words, fault, line in rows():
-            if words[0] in everyday_words.COMMANDS and words[1] not in ("log", "journal"):
+            is_file = words[1] in ("log", "journal", "ledger")
+            if words[0] in everyday_words.COMMANDS and not is_file:
                 line, _, name = line.partition(NAME_OF_FILE)
                 self.assertTrue(not name or (COMMANDS / name[1:].split(";")[0]).is_file(), spoken(words))
                 ended = Ended(1, b"", f"{fault}\n{line}\n".encode())
@@ -374,7 +376,8 @@ class Lost(ExplainCase):
         """Without standard error status, output and files are the same."""
         before = {it: it.read_bytes() for it in self.home.rglob("*") if it.is_file()}
         of_files = [it for it in rows() if it[0][0] in (
-            "issue", "serve", "run", "show", "new-log", "new-journal", "grow-journal", "copy-journal")]
+            "issue", "serve", "run", "show", "new-log", "new-journal", "new-ledger", "grow-journal",
+            "copy-journal", "copy-ledger")]
         for words, _, _ in [*self.chance.sample(rows(), 30), *of_files]:
             for way in ("2>&-", "2>/dev/full", ">&- 2>&-", "<&- >&- 2>&-"):
                 ended = self.in_bash(with_explain(words, 0), way)

@@ -1,5 +1,5 @@
-"""`--explain` over what files hold: which record of a log or a ledger is wrong, that a journal is, and
-which line of a configuration or a script is wrong."""
+"""`--explain` over what files hold: which record of a log is wrong, that a journal or a ledger is,
+and which line of a configuration or a script is wrong."""
 from __future__ import annotations
 
 import os
@@ -10,9 +10,9 @@ from ..service.test_store_files import turn_of_devices
 from ..support.commands.everyday_rows import FIRST
 from ..support.commands.explain_case import EXPLAIN, ISSUE, SCRIPT, ExplainCase
 from ..support.commands.explained import Asked, Facts, damaged_record, explained, line_of
-from ..support.commands.issuing import bytes_of, numbers_from
+from ..support.commands.issuing import Ledger, bytes_of, numbers_from
 from ..support.commands.shown import journal_ended
-from ..support.formats import journal_records, left_files
+from ..support.formats import journal_records, ledger_file, left_files
 from ..support.formats.checked_journal import HEADER, blank, checked, journal_of
 from ..support.formats.bank import BANK, BDK, CARD, FRONT
 from ..support.formats.left_files import Records
@@ -26,7 +26,9 @@ from .test_show import Damaged
 
 A_GOOD_LOG = "a log as it was kept, on a device that works"
 A_GOOD_JOURNAL = "a journal as it was kept, on a device that works"
-NUMBERS = "initial key serial numbers"
+A_GOOD_LEDGER = "a ledger as it was kept"
+A_GOOD_OLD_LEDGER = "a ledger as it was kept, on a device that works"
+MAKERS = {"log": "new-log", "journal": "new-journal", "ledger": "new-ledger"}
 
 
 def first_unusable(numbers: Sequence[int]) -> Optional[int]:
@@ -41,30 +43,35 @@ def first_counted(numbers: Sequence[int]) -> Optional[int]:
 
 
 def strange(form: Records, image: bytes, called: str, wanted: str) -> Optional[str]:
-    """What is told of the file `it` that is empty, or whose whole records no log or journal leaves."""
+    """What is told of the file `it` that is empty, or whose whole records no such store leaves."""
     if not image:
-        maker = "new-log" if form is left_files.LOG else "new-journal"
-        return f"{called} it: empty; wanted: {wanted}; make it by dukpt {maker} FILE RECORDS"
-    record_ = None if len(image) % form.size else form.foreign(image)
+        return (f"{called} it: empty; wanted: {wanted}; make it by dukpt {MAKERS[called]} FILE "
+                "RECORDS")
+    is_old = form is left_files.OLD_LEDGER
+    is_other = is_old and not form.is_front(image[: form.size])
+    # A ledger is looked at as one of version 2 first, whose records are longer.
+    whole = left_files.LEDGER.size if is_old else form.size
+    record_ = None if is_other or len(image) % whole else form.foreign(image)
     if record_ is None:
         return None
     return f"no {called} it: record {record_} is neither open nor zero; wanted: {wanted}"
 
 
 class Logs(ExplainCase):
-    """Which record of a log or a ledger is damaged, or has a number that does not belong there."""
+    """Which record of a log is damaged, or has a number that does not belong there."""
 
     def failed(self, image: bytes, place: Optional[int], name: str) -> None:
-        """That serve and issue name this record, and change nothing."""
-        record_ = None if place is None else f"record {place}"
+        """That serve and copy-ledger name this record, and change nothing."""
+        found = "wrong records, or a step that failed" if place is None else f"record {place}"
         self.write("it", image)
-        for words, fault, called, wanted, none in (
-            (["serve", "bank.toml", "--log", "it"], "log: failed", "log", A_GOOD_LOG,
-             "wrong records, or a step that failed"),
-            ([*ISSUE, "it"], "ledger: damaged", "ledger", NUMBERS, "numbers that no ledger has"),
+        for words, form, called, wanted in (
+            (["serve", "bank.toml", "--log", "it"], left_files.LOG, "log", A_GOOD_LOG),
+            (["copy-ledger", "it", "new"], left_files.OLD_LEDGER, "ledger", A_GOOD_OLD_LEDGER),
         ):
-            self.explained(words, fault, strange(left_files.LOG, image, called, wanted)
-                           or f"{called} it: {record_ or none}; wanted: {wanted}")
+            line = (strange(form, image, called, wanted)
+                    or f"{called} it: {found}; wanted: {wanted}")
+            self.explained(words, f"{called}: failed", line)
+            self.assertFalse((self.home / "new").exists(), name)
         self.assertEqual((self.home / "it").read_bytes(), image, name)
 
     def test_spoiled(self) -> None:
@@ -102,8 +109,8 @@ class Logs(ExplainCase):
                 for words, fault, called, wanted, none in (
                     (["serve", "bank.toml", "--log", name], "log: failed", "log", A_GOOD_LOG,
                      "wrong records, or a step that failed"),
-                    ([*ISSUE, name], "ledger: damaged", "ledger", NUMBERS,
-                     "numbers that no ledger has"),
+                    ([*ISSUE, name], "ledger: damaged", "ledger", A_GOOD_LEDGER,
+                     "records that no ledger has"),
                 ):
                     ended = self.run_with([*words, EXPLAIN], seconds=20)
                     line = f"{fault}\n{called} {name}: {none}; wanted: {wanted}\n".encode()
@@ -122,15 +129,15 @@ class Logs(ExplainCase):
                       "another terminal's": ([first + 1, first + SPENT + 2, first + 1], 2)}
         of_ledger = {"a counter": ([first, first + SPENT + 1], 1), "the first": ([first + 1], 0),
                      "twice and a counter": ([first, first, first + 2, first + 1], 2)}
-        for words, fault, called, wanted, cases in (
-            (["serve", "bank.toml", "--log", "it"], "log: failed", "log", A_GOOD_LOG, of_service),
-            ([*ISSUE, "it"], "ledger: damaged", "ledger", NUMBERS, of_ledger),
+        for words, called, wanted, cases in (
+            (["serve", "bank.toml", "--log", "it"], "log", A_GOOD_LOG, of_service),
+            (["copy-ledger", "it", "new"], "ledger", A_GOOD_OLD_LEDGER, of_ledger),
         ):
             for name, (numbers, place) in cases.items():
                 self.write("it", log_image(bytes_of(numbers), 5))
                 ended = self.run_with([*words, EXPLAIN])
-                line = f"{fault}\n{called} it: record {place}; wanted: {wanted}\n".encode()
-                self.assert_ended(ended, 1, b"", line, name)
+                line = f"{called}: failed\n{called} it: record {place}; wanted: {wanted}\n"
+                self.assert_ended(ended, 1, b"", line.encode(), name)
 
     def test_numbers_before_damage(self) -> None:
         """A damaged record goes first, where another number stands before it too."""
@@ -139,22 +146,22 @@ class Logs(ExplainCase):
         self.failed(image, 2, "a number twice, then a record without its zeros")
 
     def test_random_numbers(self) -> None:
-        """The first number that a service's log, or a ledger, does not keep."""
+        """The first number that a service's log, or a ledger of version 1, does not keep."""
         first = int(FIRST, 16)
         for _ in range(20 * self.times):
             few = [first, first + self.chance.randrange(1, 1 << 21), first + 1, first + 2, first + 3,
                    first + SPENT + 1]
             numbers = [self.chance.choice(few) for _ in range(self.chance.randrange(1, 30))]
             self.write("it", log_image(bytes_of(numbers), 30))
-            for words, fault, called, wanted, place in (
-                (["serve", "bank.toml", "--log", "it"], "log: failed", "log", A_GOOD_LOG,
-                 first_unusable(numbers)),
-                ([*ISSUE, "it"], "ledger: damaged", "ledger", NUMBERS, first_counted(numbers)),
+            for words, called, wanted, place in (
+                (["serve", "bank.toml", "--log", "it"], "log", A_GOOD_LOG, first_unusable(numbers)),
+                (["copy-ledger", "it", "new"], "ledger", A_GOOD_OLD_LEDGER, first_counted(numbers)),
             ):
-                if place is None:
-                    continue
-                line = f"{fault}\n{called} it: record {place}; wanted: {wanted}\n".encode()
-                self.assert_ended(self.run_with([*words, EXPLAIN]), 1, b"", line, str(numbers))
+                if place is not None:
+                    line = f"{called}: failed\n{called} it: record {place}; wanted: {wanted}\n"
+                    ended = self.run_with([*words, EXPLAIN])
+                    self.assert_ended(ended, 1, b"", line.encode(), str(numbers))
+            (self.home / "new").unlink(missing_ok=True)
 
     def test_writes_that_fail(self) -> None:
         """The log itself is sound then."""
@@ -166,23 +173,90 @@ class Logs(ExplainCase):
             line = f"log it: wrong records, or a step that failed; wanted: {A_GOOD_LOG}"
             answers = b"".join(it.answer for it in payments(3)[: room // RECORD])
             self.assert_ended(ended, 1, answers, f"log: failed\n{line}\n".encode(), f"{room} bytes")
-            self.write("it", bytes(5 * RECORD))
+
+
+class Ledgers(ExplainCase):
+    """Of a damaged ledger only `show ledger` tells the record."""
+
+    line = f"ledger it: records that no ledger has; wanted: {A_GOOD_LEDGER}"
+
+    def failed(self, image: bytes, what: str) -> None:
+        """That `issue` and `show ledger` tell so, and change nothing."""
+        self.write("it", image)
+        line = strange(left_files.LEDGER, image, "ledger", A_GOOD_LEDGER) or self.line
+        self.explained([*ISSUE, "it"], "ledger: damaged", line)
+        with self.assertRaises(ledger_file.DamagedLedger) as found:
+            ledger_file.kept_in(image)
+        fault = f"ledger refused at {found.exception.args[0]}: Damaged"
+        line = explained(Asked("show"), fault, Facts(path="it"))
+        self.explained(["show", "ledger", "it"], fault, line)
+        self.assertEqual((self.home / "it").read_bytes(), image, what)
+
+    def test_damage(self) -> None:
+        """A byte of each record, a gate that is lost, and a size."""
+        size = ledger_file.RECORD
+        image = Ledger(6, numbers_from(int(FIRST, 16), 4)).image
+        bytes_of_records = [size * it + self.chance.randrange(1, size) for it in range(1, 5)]
+        for at in [*range(1, size), *bytes_of_records, *[size * it for it in range(1, 4)]]:
+            changed = bytearray(image)
+            # Not the bit with which the sixteenth byte is the last of the zeros of a log's record.
+            changed[at] ^= 1 << self.chance.randrange(5)
+            self.failed(bytes(changed), f"byte {at}")
+        for size in (0, 1, 15, 33, 32 * 6 + 5, 32 * 7 - 1):
+            self.failed(image[:size], f"{size} bytes")
+
+    def test_strange(self) -> None:
+        """Records behind those that are kept, which no stop leaves: the last that is not zero is
+        named."""
+        size = ledger_file.RECORD
+        image = Ledger(2, numbers_from(int(FIRST, 16), 2)).image
+        gated = bytes(size) + b"\x02" + bytes(2 * size - 1)
+        for behind, place in ((b"a" * 2 * size, 4), (gated, 4), (bytes(3 * size - 1) + b"\x01", 5)):
+            self.write("it", image + behind)
+            self.assertEqual(left_files.LEDGER.foreign(image + behind), place)
+            line = (f"no ledger it: record {place} is neither open nor zero; "
+                    f"wanted: {A_GOOD_LEDGER}")
+            self.explained([*ISSUE, "it"], "ledger: damaged", line)
+
+    def test_other_numbers(self) -> None:
+        """A number with a counter is no initial key's."""
+        first = int(FIRST, 16)
+        for numbers in ([first, first + SPENT + 1], [first + 1], [first, first, first + 2]):
+            self.failed(Ledger(5, numbers).image, str(numbers))
+
+    def test_version_1(self) -> None:
+        """How to come from it, whatever its numbers are."""
+        first = int(FIRST, 16)
+        line = ("ledger it: version 1; wanted: one of version 2; make it by dukpt copy-ledger OLD "
+                "NEW")
+        for numbers in ([], [first], [first, first + SPENT], [first + 1], [first, first]):
+            image = log_image(bytes_of(numbers), 5)
+            self.write("it", image)
+            self.explained([*ISSUE, "it"], "ledger: version 1, use copy-ledger", line)
+            self.assertEqual((self.home / "it").read_bytes(), image)
+
+    def test_writes_that_fail(self) -> None:
+        """The ledger itself is sound then."""
+        size = ledger_file.RECORD
+        for room in (0, 5, size, size + 3, 2 * size, 2 * size + 3, 3 * size + 31):
+            self.write("it", Ledger(5).image)
+            limits = Limits(file_size=room)
             ended = self.run_with([*ISSUE[:4], "3", "--ledger", "it", EXPLAIN], limits=limits)
             line = ("ledger it: a step of its device failed; wanted: a device that works; the next number "
                     "may stand in it")
             self.assertEqual((ended.status, ended.faults), (1, f"ledger: failed\n{line}\n".encode()))
-            self.assertEqual(ended.output.count(b"\n"), room // RECORD)
+            self.assertEqual(ended.output.count(b"\n"), max(0, room // size - 1))
 
     def test_issued(self) -> None:
         """The first of the numbers that stands there; and where there is too little room."""
         numbers = numbers_from(int(FIRST, 16), 3)
-        image = log_image(bytes_of(numbers[1:2]), 2)
+        image = Ledger(2, numbers[1:2]).image
         self.write("it", image)
         second = serial_text(numbers[1])
         line = (f"IKSN: {second} stands in the ledger; wanted: numbers that do not; --skip-issued "
                 "passes over them")
         self.explained([*ISSUE[:4], "3", "--ledger", "it"], f"{second}: issued", line)
-        line = "ledger it: too little room; wanted: 16 bytes of zeros for each number"
+        line = "ledger it: too little room; wanted: 32 bytes of zeros for each number"
         words = [*ISSUE[:4], "3", "--ledger", "it", "--skip-issued"]
         self.explained(words, "ledger: full", line)
         self.assertEqual((self.home / "it").read_bytes(), image)
@@ -192,7 +266,7 @@ class Logs(ExplainCase):
     def test_not_issued(self) -> None:
         """The first of the numbers that does not stand there."""
         numbers = numbers_from(int(FIRST, 16), 3)
-        image = log_image(bytes_of([numbers[2], numbers[0]]), 3)
+        image = Ledger(3, [numbers[2], numbers[0]]).image
         self.write("it", image)
         second = serial_text(numbers[1])
         line = (f"IKSN: {second} does not stand in the ledger; wanted: numbers that do; without --again it "

@@ -13,11 +13,12 @@ from typing import Sequence
 from ..support.commands.everyday_rows import BASE, FIRST, RIGHT, SERIAL
 from ..support.commands.explain_case import EXPLAIN, ISSUE, SCRIPT, WITHOUT_RIGHTS, ExplainCase
 from ..support.commands.explained import (
-    A_FOLDER, A_JOURNAL, A_LOG, A_NEW_FILE, IN_USE, MISSING, MOST_PATH, NO_FOLDER, NO_PERMISSION, OTHER,
-    READABLE, READ_BEFORE, THERE, told_path)
+    A_FOLDER, A_JOURNAL, A_LEDGER, A_LOG, A_NEW_FILE, IN_USE, MISSING, MOST_PATH, NO_FOLDER,
+    NO_PERMISSION, OTHER, READABLE, READ_BEFORE, THERE, told_path)
 from ..support.formats.bank import BANK, LONGEST
 from ..support.formats.checked_journal import HEADER, blank, journal_of
 from ..support.formats.journal_records import RECORD as JOURNAL_RECORD
+from ..support.formats.ledger_file import ledger_image
 from ..support.formats.log_file import RECORD, log_image, record
 from ..support.models.model_journal import payments_of_all
 from ..support.program import Ended, Limits, spoken
@@ -34,12 +35,13 @@ READERS = (
     (["run", "bank.toml"], "script: cannot read", "SCRIPT"),
     (["show", "log"], "log: cannot read", "WHAT"),
     (["show", "journal"], "journal: cannot read", "WHAT"),
+    (["show", "ledger"], "ledger: cannot read", "WHAT"),
 )
 # Behind the name of the file stand these words.
 LOCKERS = ((["serve", "bank.toml", "--log"], [], "log: cannot open", "log", A_LOG),
            (["serve", "bank.toml", "--journal"], [], "journal: cannot open", "journal", A_JOURNAL),
            (["grow-journal"], ["3"], "journal: cannot open", "journal", A_JOURNAL),
-           (ISSUE, [], "ledger: cannot open", "ledger", A_LOG))
+           (ISSUE, [], "ledger: cannot open", "ledger", A_LEDGER))
 
 
 def at_fault(called: str, path: str) -> str:
@@ -227,19 +229,22 @@ class Refused(ExplainCase):
              "WHAT /dev/zero: a longer file; wanted: at most 1073741824 bytes"),
             (["show", "journal", "/dev/zero"], "journal: too long",
              "WHAT /dev/zero: a longer file; wanted: at most 1073741824 bytes"),
+            (["show", "ledger", "/dev/zero"], "ledger: too long",
+             "WHAT /dev/zero: a longer file; wanted: at most 1073741824 bytes"),
         ):
             self.explained(words, fault, line)
 
     def test_no_random_bytes(self) -> None:
         """No random device, or an empty one, which can be opened."""
-        self.write("ledger", bytes(2 * RECORD))
+        self.write("ledger", ledger_image([], 2))
         for way, reason in (("mount -t tmpfs none /dev", MISSING),
                             ("mount --bind /dev/null /dev/urandom", OTHER)):
             front = ["unshare", "--user", "--map-root-user", "--mount", "sh", "-c",
                      f'{way} && exec "$@"', "sh"]
             line = f"/dev/urandom: {reason}; wanted: a device that can be read"
             self.explained([*ISSUE, "ledger"], "padding: cannot read", line, front=front)
-            for words in (["new-journal", "new", "3"], ["copy-journal", "missing", "new"]):
+            for words in (["new-journal", "new", "3"], ["copy-journal", "missing", "new"],
+                          ["new-ledger", "new", "3"]):
                 self.explained(words, "identity: cannot read", line, front=front)
 
 
@@ -332,7 +337,7 @@ class Names(ExplainCase):
 
     def test_paths_and_numbers_that_references_hold(self) -> None:
         """Nor is the path of a log, or a COUNT."""
-        for kind in ("log", "journal"):
+        for kind in ("log", "journal", "ledger"):
             self.write("it", b"missing\n")
             self.assertEqual(self.told_of(["show", kind, "@it"]), f"WHAT: {MISSING}; wanted: {READABLE}")
             self.assertEqual(self.told_of(["show", kind, "missing"]),
@@ -364,10 +369,12 @@ class Makers(ExplainCase):
         return {os.fspath(it.relative_to(self.home)): about(it) for it in self.home.rglob("*")}
 
     def not_made(self, name: str, reason: str, front: Sequence[str] = (), **how: object) -> None:
-        line = f"{at_fault('journal', name)}: {reason}; wanted: {A_NEW_FILE}"
-        for words in (["new-journal", name, "3"], ["copy-journal", "journal", name]):
+        for store, words in (("journal", ["new-journal", name, "3"]),
+                             ("journal", ["copy-journal", "journal", name]),
+                             ("ledger", ["new-ledger", name, "3"])):
             before = self.state()
-            self.explained(words, "journal: cannot make", line, front=front, **how)
+            line = f"{at_fault(store, name)}: {reason}; wanted: {A_NEW_FILE}"
+            self.explained(words, f"{store}: cannot make", line, front=front, **how)
             changed = sorted({it[0] for it in before.items() ^ self.state().items()})
             self.assertEqual(changed, [], f"{spoken(words)}: made, changed or removed")
 
@@ -397,10 +404,11 @@ class Makers(ExplainCase):
         self.addCleanup(small.close)
         self.write("journal", blank(2 * PAGE // JOURNAL_RECORD))
         new = os.fspath(small.folder / "new")
-        for words in (["new-journal", new, str(2 * PAGE // JOURNAL_RECORD)],
-                      ["copy-journal", "journal", new]):
-            line = f"journal {new}: {OTHER}; wanted: {A_NEW_FILE}"
-            self.explained(words, "journal: cannot make", line)
+        for store, words in (("journal", ["new-journal", new, str(2 * PAGE // JOURNAL_RECORD)]),
+                             ("journal", ["copy-journal", "journal", new]),
+                             ("ledger", ["new-ledger", new, str(2 * PAGE // JOURNAL_RECORD)])):
+            line = f"{store} {new}: {OTHER}; wanted: {A_NEW_FILE}"
+            self.explained(words, f"{store}: cannot make", line)
             self.assertEqual(([*small.folder.iterdir()], small.free()), ([], 1), spoken(words))
 
     def test_calls(self) -> None:
@@ -474,6 +482,8 @@ class Ends(ExplainCase):
                                   (["serve", "bank.toml", "--journal", "it"], damaged + b"\x00"),
                                   (["copy-journal", "it", "new"], damaged + b"\x00"),
                                   (["new-journal", "it", "3"], damaged), (["show", "journal", "it"], b"\x00"),
+                                  (["new-ledger", "it", "3"], damaged),
+                                  (["show", "ledger", "it"], b"\x00"),
                                   (["show", "log", "it"], damaged), (["run", "it", SCRIPT], b"x = 1\n"),
                                   (["run", "bank.toml", "it"], b"up\n"),
                                   (["derive", "@it", SERIAL], b"x\n")):
@@ -500,6 +510,8 @@ class Memory(ExplainCase):
         for words in (["kcv", "x"], ["run", "bad.toml", SCRIPT], ["run", "long.toml", SCRIPT],
                       ["kcv", "@missing"], ["show", "log", "logs/of_31_bytes.log"],
                       ["show", "journal", "long.toml"], ["new-journal", "bank.toml", "3000"],
+                      ["show", "ledger", "ledgers/changed_number.ledger"],
+                      [*ISSUE, "logs/of_33_bytes.log"],
                       ["copy-journal", "logs/of_33_bytes.log", "new"],
                       ["serve", "bank.toml", "--journal", "logs/of_33_bytes.log"],
                       ["derive", *["0" * 50_000] * 4]):

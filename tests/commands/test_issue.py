@@ -12,7 +12,8 @@ from collections import Counter
 from pathlib import Path
 from typing import Optional, Sequence
 
-from ..service.test_service_log_calls import STEPS, acceptance, start, steps_of
+from ..service.test_service_log_calls import (
+    LENGTH, REPLIED, STEPS, SYNCED, opening, steps_of, write)
 from ..support.case import ProgramCase, in_parts
 from ..support.commands.commands import Refused as Fault
 from ..support.commands.everyday_cases import Case, Draw
@@ -20,13 +21,20 @@ from ..support.commands.everyday_rows import BASE, FIRST, SERIAL
 from ..support.commands.everyday_words import COMMANDS as WORDS
 from ..support.commands.everyday_words import ArgumentsRefused, References, read, resolve
 from ..support.commands.issuing import (
-    BEGUN, KEY_SET, MOST_COUNT, NUMBERS, Issued, Keys, Ledger, asked, bytes_of, numbers_from,
-    numbers_left, read_line, read_lines, whole_lines)
+    BEGUN, KEY_SET, MOST_COUNT, NUMBERS, Issued, Keys, Ledger, asked, bytes_of, issued_by, last_run,
+    numbers_from, numbers_left, numbers_of, read_line, read_lines, whole_lines)
 from ..support.commands.leaks import leaked, leaks
-from ..support.formats.left_files import LOG
-from ..support.formats.log_file import RECORD, DamagedLog, log_image, numbers_in, record
+from ..support.formats import log_file
+from ..support.formats.checked_journal import journal_of
+from ..support.formats.ledger_file import (
+    MOST_RUN, RECORD, Kept, Made, header_of, kept_in, ledger_image, record)
+from ..support.formats.left_files import AHEAD, LEDGER, looked
+from ..support.formats.log_file import log_image
+from ..support.formats.opened_ledger import Refusal, opened
+from ..support.models.model_journal import payments_of_all
 from ..support.program import COMMANDS, SECONDS, Ended, Limits, Program, Word, spoken
 from ..support.quick import QuickRuns
+from ..support.service.client import payments
 from ..support.service.service import Service
 from ..support.standards.des import encrypt_block
 from ..support.standards.dukpt import SPENT, serial_text
@@ -40,15 +48,30 @@ LINE_LENGTH = 116
 WRITE_FAILED = b"write failed\n"
 NO_COUNTS = ("", "0", "00000000", "x", "1x", "0x1", "1.0", " 1", "1 ", "+1", "1048577", "-1", "-",
              "99999999999999999999", "9" * 400, "\u0661")
-# What is no ledger: logs that are damaged, and those of a service.
+# Ledgers of two records that keep a number with a counter, and other files that are none.
+COUNTED = {what: ledger_image([Kept(bytes.fromhex(it)) for it in numbers], 2) for what, numbers in {
+    "a number with a counter": [SERIAL], "behind a number without": [FIRST, FIRST[:-1] + "1"],
+    "the last counter": ["FFFF9876543210FFF800"], "no usable counter": ["FFFF9876543210FFFFFF"],
+}.items()}
 NO_LEDGERS = {
-    "empty": b"", "one byte": bytes(1), "fifteen bytes": bytes(15), "17 bytes": bytes(17),
-    "open behind closed": bytes(RECORD) + record(bytes(10)),
-    "not zeros behind a number": record(bytes(10), rest=b"\x00\x00\x00\x00\x01") + bytes(RECORD),
-    "a number with a counter": record(bytes.fromhex(SERIAL)) + bytes(RECORD),
-    "behind a number without": record(bytes(10)) + record(bytes(9) + b"\x01") + bytes(RECORD),
-    "the last counter": record(bytes.fromhex("FFFF9876543210FFF800")) + bytes(RECORD),
-    "no usable counter": record(bytes.fromhex("FFFF9876543210FFFFFF")) + bytes(RECORD),
+    **COUNTED, "empty": b"", "one byte": bytes(1), "fifteen bytes": bytes(15),
+    "17 bytes": bytes(17),
+    "a part of a header": header_of()[:-1], "a part of a record": header_of() + bytes(RECORD - 1),
+    "open behind closed": header_of() + bytes(RECORD) + record(Kept(bytes(10)), 2),
+    "a journal": journal_of([[it] for it in payments_of_all(payments(2))], 2),
+    "a new journal": journal_of([], 2),
+    "a log whose front has no zeros":
+        log_file.record(bytes(10), rest=b"\x00\x00\x00\x00\x01") + bytes(16),
+}
+# Ledgers in the form of a log, of which more is not looked at.
+OLD_LEDGERS = {
+    "new": log_image([], 2), "a record of zeros": log_image([], 1),
+    "numbers": log_image(bytes_of(numbers_from(int(FIRST, 16), 3)), 5),
+    "full": log_image([bytes.fromhex(FIRST)], 1),
+    "what a stop left": log_image([bytes.fromhex(FIRST)], 1) + b"\x00" + b"a" * 15 + bytes(32),
+    "a log of a service": log_image([bytes.fromhex(SERIAL)], 3),
+    "a number behind a closed record": log_image([], 1) + log_image([bytes.fromhex(FIRST)], 2),
+    "a ledger without its header": bytes(RECORD) + record(Kept(bytes(10)), 1),
 }
 # So many runs at random, on all programs that are tried, and so many of them on one ledger.
 RUNS, ON_ONE = 10_000, 12
@@ -108,7 +131,8 @@ class IssueCase(ProgramCase):
               words: Optional[Sequence[str]] = None, given: bytes = b"",
               again: bool = False) -> list[Issued]:
         """That a run issues what it has to, or makes the lines again, and leaves the ledger so."""
-        numbers, fault = ledger.again(first, count) if again else ledger.issue(first, count, skips)
+        numbers, fault = (ledger.again(first, count) if again
+                          else ledger.issue(keys, first, count, skips))
         words = self.words(first, count, skips, keys, again) if words is None else words
         ended = self.run_issue(*words, given=given)
         what = f"{spoken(words)}: {ended}"
@@ -215,14 +239,49 @@ class Lines(IssueCase):
 
     def test_what_stands_behind(self) -> None:
         """The rest of the record behind the last number may be anything, and is replaced."""
-        numbers = numbers_from(FIRST_NUMBER, 2)
-        for junk in (bytes([gate]) + self.chance.randbytes(15) for gate in (0, 2, 255)):
-            self.path.write_bytes(log_image(bytes_of(numbers), 2) + junk + bytes(2 * RECORD))
-            ended = self.run_issue(*self.words(FIRST_NUMBER, 4, True))
-            issued = [it.number for it in read_lines(ended.output, KEYS)]
-            self.assertEqual((ended.status, issued), (0, numbers_from(FIRST_NUMBER, 4)[2:]))
-            self.assertEqual(self.path.read_bytes(),
-                             log_image(bytes_of(numbers_from(FIRST_NUMBER, 4)), 5))
+        for gate in (0, 2, 255):
+            junk = bytes([gate]) + self.chance.randbytes(RECORD - 1)
+            ledger = Ledger(2, numbers_from(FIRST_NUMBER, 2))
+            self.path.write_bytes(ledger.image + junk + bytes(2 * RECORD))
+            ledger.room = 5
+            self.check(ledger, FIRST_NUMBER, 4, True)
+
+    def test_runs_have_numbers(self) -> None:
+        """Each is one more than the largest in the ledger, wherever that is; what was copied has
+        none, and a run that issues nothing takes none."""
+        for runs, wanted in (([], 1), ([0, 0], 1), ([1, 1, 2], 3), ([7, 0, 3], 8),
+                             ([MOST_RUN - 1], MOST_RUN)):
+            ledger = Ledger(9)
+            for at, run in enumerate(runs):
+                keys = Keys(self.chance.randbytes(16), b"")
+                ledger.kept += issued_by(keys, [FIRST_NUMBER + at * SPENT], run) if run else [
+                    Kept((FIRST_NUMBER + at * SPENT).to_bytes(10, "big"))]
+            self.path.write_bytes(ledger.image)
+            self.check(ledger, FIRST_NUMBER, len(runs) + 1, again=True)
+            if runs:
+                self.check(ledger, FIRST_NUMBER, len(runs), True)
+                self.check(ledger, FIRST_NUMBER, len(runs), again=True)
+            self.check(ledger, FIRST_NUMBER, len(runs) + 2, True)
+            self.assertEqual(last_run(ledger.kept), wanted)
+            new = ledger.kept[len(runs) :]
+            self.assertEqual([it.made.run for it in new if it.made], [wanted] * 2)
+
+    def test_the_last_run(self) -> None:
+        """Behind it none issues a number, or passes any over; lines are made again."""
+        ledger = self.begin(9)
+        ledger.kept = [Kept(FIRST_NUMBER.to_bytes(10, "big"), Made(b"abc", b"def", MOST_RUN))]
+        self.path.write_bytes(ledger.image)
+        for count, skips, fault in ((2, False, f"{FIRST}: issued"), (2, True, "ledger: full"),
+                                    (1, True, "ledger: full")):
+            self.refused(self.words(FIRST_NUMBER, count, skips), fault)
+        self.check(ledger, FIRST_NUMBER, 1, again=True)
+
+    def test_a_number_twice(self) -> None:
+        """What stands in the ledger twice is no fault."""
+        ledger = self.begin(5, numbers_from(FIRST_NUMBER, 2) * 2)
+        self.check(ledger, FIRST_NUMBER, 2)
+        self.check(ledger, FIRST_NUMBER, 3, True)
+        self.check(ledger, FIRST_NUMBER, 3, again=True)
 
 
 class Random(IssueCase):
@@ -290,7 +349,7 @@ class Random(IssueCase):
             return [], str(why), None, 0
         if "again" in given.flags:
             return *ledger.again(first, count), keys, 0
-        issued, fault = ledger.issue(first, count, "skip-issued" in given.flags)
+        issued, fault = ledger.issue(keys, first, count, "skip-issued" in given.flags)
         return issued, fault, keys, count - len(issued)
 
     def kind_of(self, fault: str, issued: list[int], again: bool) -> str:
@@ -371,24 +430,26 @@ class Refused(IssueCase):
 
     def test_no_ledgers(self) -> None:
         logs = {it.stem: it.read_bytes() for it in (COMMANDS / "logs").glob("*.log")}
-        # A new log, and one of a number that no transaction has.
-        for name in ("two_numbers", "counter_of_zero"):
-            self.path.write_bytes(logs.pop(name))
-            self.refused(self.words(0, 3), "ledger: full")
-        for name, image in {**NO_LEDGERS, **logs}.items():
+        images = {**NO_LEDGERS, **OLD_LEDGERS, **logs}
+        told = {what: opened(image) for what, image in images.items()}
+        for what, wanted in ((NO_LEDGERS, Refusal.DAMAGED), (OLD_LEDGERS, Refusal.OLD)):
+            self.assertEqual({name: told[name] for name in what}, dict.fromkeys(what, wanted))
+        for name, image in images.items():
             self.path.write_bytes(image)
-            for skips in (False, True):
-                self.refused(self.words(0, 1, skips), "ledger: damaged")
+            fault = opened(image)
+            self.assertIsInstance(fault, Refusal, name)
+            for words in (self.words(0, 1), self.words(0, 1, True), self.words(0, 1, again=True)):
+                self.refused(words, fault.value)
 
     def test_a_service_log(self) -> None:
         """A log of a service is no ledger, and a ledger with numbers is no log of a service."""
         bank, asked = COMMANDS / "bank.toml", COMMANDS / "service" / "payments"
         frame = bytes.fromhex(asked.read_text().split()[0])
-        self.path.write_bytes(bytes(3 * RECORD))
+        self.path.write_bytes(log_image([], 3))
         ended = self.run_issue("serve", bank, "--log", "ledger", given=frame)
         self.assertEqual((ended.status, ended.faults), (0, b""))
         self.assertEqual(self.path.read_bytes()[:1], b"\x01", "the service accepted a request")
-        self.refused(self.words(FIRST_NUMBER, 1), "ledger: damaged")
+        self.refused(self.words(FIRST_NUMBER, 1), Refusal.OLD.value)
         self.check(self.begin(3), FIRST_NUMBER, 1)
         self.refused(["serve", bank, "--log", "ledger"], "log: failed")
 
@@ -415,13 +476,15 @@ class Refused(IssueCase):
         with open(self.path, "rb") as other:
             fcntl.flock(other, fcntl.LOCK_EX)
             self.refused(self.words(FIRST_NUMBER, 1), "ledger: cannot open")
+        self.check(ledger, FIRST_NUMBER, 1)
+        self.path.write_bytes(log_image([], 3))
         service = Service(self.program, self.home, "serve", COMMANDS / "bank.toml", "--log", "ledger")
         self.addCleanup(service.release)
         # It answers when it has its log.
         service.ask([b"\x00\x00"])
         self.refused(self.words(FIRST_NUMBER, 1), "ledger: cannot open")
         self.assertEqual(service.end().status, 0)
-        self.check(ledger, FIRST_NUMBER, 1)
+        self.refused(self.words(FIRST_NUMBER, 1), Refusal.OLD.value)
 
     def test_another_run(self) -> None:
         """One that waits, for nobody reads its lines, has the ledger; it goes on behind that."""
@@ -433,9 +496,9 @@ class Refused(IssueCase):
         self.refused_in_use()
         service.kill()
         service.end()
-        numbers = numbers_in(self.path.read_bytes(), count)
-        ledger.numbers = [int.from_bytes(it, "big") for it in numbers]
-        self.assertEqual(ledger.numbers, numbers_from(FIRST_NUMBER, len(numbers)))
+        kept = kept_in(self.path.read_bytes())
+        ledger.keep(KEYS, numbers_from(FIRST_NUMBER, len(kept)))
+        self.assertEqual(kept, ledger.kept)
 
     def refused_in_use(self) -> None:
         ended = self.run_issue(*self.words(0, 1))
@@ -487,7 +550,7 @@ class Lost(IssueCase):
 
     def goes_on(self, ledger: Ledger, kept: int, count: int) -> None:
         """The ledger keeps so many of the numbers; the next run issues all others."""
-        ledger.numbers = numbers_from(FIRST_NUMBER, kept)
+        ledger.keep(KEYS, numbers_from(FIRST_NUMBER, kept))
         self.assertEqual(self.path.read_bytes(), ledger.image)
         issued = self.check(ledger, FIRST_NUMBER, count, True)
         self.assertEqual(len(issued), count - kept)
@@ -504,9 +567,9 @@ class Lost(IssueCase):
     def test_at_bytes(self) -> None:
         """An output that takes no more behind some byte. The limit is that of the ledger too, which
         is shorter."""
-        count, path = 3, self.home / "output"
-        whole, size = count * LINE_LENGTH, RECORD * count
-        places = {size, *range(LINE_LENGTH - 1, LINE_LENGTH + 2), 2 * LINE_LENGTH, whole - 1, whole}
+        count, path = 2, self.home / "output"
+        whole, size = count * LINE_LENGTH, RECORD * (1 + count)
+        places = {size, *range(LINE_LENGTH - 1, LINE_LENGTH + 2), whole - 1, whole}
         for room in sorted(places | set(self.chance.sample(range(size, whole), 15))):
             ledger = self.begin(count)
             with open(path, "wb") as output:
@@ -564,14 +627,14 @@ class Lost(IssueCase):
     def test_a_ledger_that_fails(self) -> None:
         """Its file takes no write behind some byte: a number that is not in it has no line."""
         count = 4
-        for room in range(RECORD * count):
-            self.begin(count)
+        for room in range(RECORD * (1 + count)):
+            ledger = self.begin(count)
             ended = self.run_issue(*self.words(FIRST_NUMBER, count), limits=Limits(file_size=room))
             issued = [it.number for it in read_lines(ended.output, KEYS)]
             self.assertEqual((ended.status, ended.faults), (1, b"ledger: failed\n"), room)
-            self.assertEqual(issued, numbers_from(FIRST_NUMBER, room // RECORD), room)
-            kept = [int.from_bytes(it, "big") for it in numbers_in(self.path.read_bytes(), count)]
-            self.assertEqual(kept, issued, room)
+            self.assertEqual(issued, numbers_from(FIRST_NUMBER, max(0, room // RECORD - 1)), room)
+            ledger.keep(KEYS, issued)
+            self.assertEqual(opened(self.path.read_bytes()), ledger.kept, room)
 
     def test_no_random_bytes(self) -> None:
         """Nothing is issued where there is no random device, or an empty one."""
@@ -596,18 +659,32 @@ class Calls(IssueCase):
         strace = shutil.which("strace")
         self.assertIsNotNone(strace, "strace is not installed: apt-get install strace")
         ledger = self.begin(3, [FIRST_NUMBER])
+        before = ledger.image
         self.path.rename(self.home / "log")
         trace = self.home / "trace"
         words = ["-f", "-e", f"trace={','.join(STEPS)}", "-o", trace, self.program.path,
                  *self.words(FIRST_NUMBER, 3, True)]
         words[words.index("ledger")] = "log"
         ended = Program(Path(strace or "")).run(*words, folder=self.home)
-        numbers, _ = ledger.issue(FIRST_NUMBER, 3, True)
+        numbers, _ = ledger.issue(KEYS, FIRST_NUMBER, 3, True)
         self.assertEqual([it.number for it in read_lines(ended.output, KEYS)], numbers)
         self.assertEqual((self.home / "log").read_bytes(), ledger.image)
-        # The list that it keeps was read ahead.
         self.assertEqual(steps_of(trace.read_text()),
-                         [*start(3), *acceptance(1), *acceptance(2)])
+                         [*started(before), *kept_at(2), *kept_at(3)])
+
+
+def started(image: bytes) -> list[str]:
+    """A ledger is looked at, to see that it is one. Behind a sync its header is read, which takes
+    bytes ahead, and then its records, if they were not among these."""
+    looks = [f"pread64(log, {count} bytes at {at})" for count, at in looked(LEDGER, image)]
+    assert len(image) <= AHEAD
+    return [*opening("log"), LENGTH, *looks, *SYNCED, f"pread64(log, {len(image)} bytes at 0)"]
+
+
+def kept_at(place: int) -> list[str]:
+    """The body of a record is written and synced, and then the gate; then the line goes out."""
+    gate = RECORD * place
+    return [*write(RECORD - 1, gate + 1), *write(1, gate), REPLIED]
 
 
 class Kills(IssueCase):
@@ -637,7 +714,7 @@ class Kills(IssueCase):
         self.first = self.random_first(ROOM)
         self.keys = Keys(self.chance.randbytes(16), self.chance.randbytes(24))
         self.all = numbers_from(self.first, ROOM)
-        self.kept: list[int] = []
+        self.kept: list[Kept] = []
         self.printed: list[int] = []
         self.begin(ROOM)
         self.histories += 1
@@ -682,10 +759,12 @@ class Kills(IssueCase):
         found = BEGUN.match(begun)
         if found:
             numbers.append(int(found[1], 16))
-        kept = [int.from_bytes(it, "big") for it in numbers_in(self.path.read_bytes(), ROOM)]
-        more = kept[len(self.kept) :]
-        self.assertEqual(kept, self.all[: len(kept)], "the ledger has the numbers in order")
-        self.assertEqual(kept[: len(self.kept)], self.kept, "what was issued before stands there")
+        kept = opened(self.path.read_bytes())
+        assert not isinstance(kept, Refusal)
+        run = 1 + last_run(self.kept)
+        wanted = issued_by(self.keys, self.all[len(self.kept) : len(kept)], run)
+        self.assertEqual(kept, [*self.kept, *wanted], "each number in order, with its run")
+        more = numbers_of(wanted)
         self.assertIn(more, (numbers, [*numbers, *more[-1:]]), "what is printed stands there")
         self.assertFalse(set(numbers) & set(self.printed), "a number is printed twice")
         self.unprinted += len(more) > len(numbers)
@@ -696,12 +775,12 @@ class Kills(IssueCase):
         """Without --skip-issued the first number is refused; with it the rest is issued."""
         if self.kept:
             ended = self.run_issue(*self.words(self.first, ROOM, False, self.keys))
-            fault = f"{serial_text(self.kept[0])}: issued\n".encode()
+            fault = f"{serial_text(self.all[0])}: issued\n".encode()
             self.assert_ended(ended, 1, b"", fault, "a run over a ledger behind kills")
         ended = self.run_issue(*self.words(self.first, ROOM, True, self.keys))
         self.assertEqual((ended.status, ended.faults), (0, passed_over(len(self.kept))))
         self.judge_run(ended.output)
-        self.assertEqual(self.kept, self.all, "in the end each number is issued")
+        self.assertEqual(numbers_of(self.kept), self.all, "in the end each number is issued")
 
 
 class Broken(AssertionError):
@@ -733,14 +812,14 @@ class PowerCuts(IssueCase):
                 self.tells(f"without {lies.value}: {self.cuts} cuts, {found.exception}")
 
     def play(self, cuts: int, lies: Lies = Lies.NONE) -> None:
-        file = CutFile(self.folder(), log_image([], FEW))
+        file = CutFile(self.folder(), ledger_image([], FEW))
         try:
             while self.cuts < cuts:
                 self.begin_history(file)
                 for _ in range(self.chance.randint(1, 6)):
                     self.live(file, lies, True)
                 self.live(file, lies, False)
-                if self.kept != self.all:
+                if numbers_of(self.kept) != self.all:
                     raise Broken("in the end not each number is issued")
         finally:
             file.close()
@@ -750,10 +829,10 @@ class PowerCuts(IssueCase):
 
     def begin_history(self, file: CutFile) -> None:
         self.all = numbers_from(self.random_first(FEW), FEW)
-        self.kept: list[int] = []
+        self.kept: list[Kept] = []
         self.printed: set[int] = set()
         self.histories += 1
-        file.make(log_image([], FEW))
+        file.make(ledger_image([], FEW, self.chance.getrandbits(64)))
 
     def live(self, file: CutFile, lies: Lies, stops: bool) -> None:
         """A run, which goes on where the one before was cut, and what is left then."""
@@ -775,16 +854,18 @@ class PowerCuts(IssueCase):
         self.midst += is_cut and bool(ended.output)
 
     def judge(self, printed: Sequence[int], image: bytes) -> None:
-        if not LOG.is_left(image):
-            raise Broken("no stop leaves so many closed records that are not zero")
-        try:
-            self.kept = [int.from_bytes(it, "big") for it in numbers_in(image, FEW)]
-        except DamagedLog as why:
-            raise Broken(f"what is left is no ledger: {why}") from why
+        kept, before = opened(image), len(self.kept)
+        if isinstance(kept, Refusal):
+            raise Broken(f"what is left is no ledger: {kept.value}")
+        if kept[:before] != self.kept:
+            raise Broken("the ledger lost what it kept")
+        if kept[before:] != issued_by(KEYS, numbers_of(kept[before:]), 1 + last_run(self.kept)):
+            raise Broken("the ledger has other check values, or another run")
+        self.kept = kept
         if len(set(printed)) < len(printed) or self.printed & set(printed):
             raise Broken("a number is printed twice")
         self.printed |= set(printed)
-        if not self.printed <= set(self.kept):
+        if not self.printed <= set(numbers_of(self.kept)):
             raise Broken("a number is printed, and not in the ledger")
-        if self.kept != self.all[: len(self.kept)]:
+        if numbers_of(self.kept) != self.all[: len(self.kept)]:
             raise Broken("the ledger has other numbers")

@@ -7,8 +7,10 @@ import subprocess
 from pathlib import Path
 from typing import Sequence
 
-from ..support.commands.issuing import numbers_from, read_lines
-from ..support.formats.log_file import RECORD
+from ..support.commands.issuing import Keys, bytes_of, issued_by, numbers_from, read_lines
+from ..support.formats.ledger_file import RECORD
+from ..support.formats.log_file import log_image
+from ..support.formats.opened_ledger import Refusal
 from ..support.program import SECONDS, Limits
 from ..support.standards.dukpt import SPENT, serial_text
 from ..support.system.traced_files import OPENS, REMOVES, SYNCS, WRITES, Call, traced
@@ -53,7 +55,7 @@ class Again(IssueCase):
         with open("/dev/full", "wb") as full:
             ended = self.run_issue(*self.words(FIRST_NUMBER, 3), output=full.fileno())
         self.assert_ended(ended, 1, b"", WRITE_FAILED, "a full device")
-        ledger.numbers = [FIRST_NUMBER]
+        ledger.keep(KEYS, [FIRST_NUMBER])
         self.assertEqual(len(self.check(ledger, FIRST_NUMBER, 3, True)), 2)
         self.assertEqual(len(self.check(ledger, FIRST_NUMBER, 1, again=True)), 1)
 
@@ -61,7 +63,16 @@ class Again(IssueCase):
         words = self.words(FIRST_NUMBER, 1, again=True)
         self.refused(words, "ledger: cannot open")
         self.path.write_bytes(b"0123456789ABCDEF" * 4)
-        self.refused(words, "ledger: damaged")
+        self.refused(words, Refusal.DAMAGED.value)
+        self.path.write_bytes(log_image(bytes_of([FIRST_NUMBER]), 3))
+        self.refused(words, Refusal.OLD.value)
+
+    def test_another_key_set(self) -> None:
+        """The check values in the ledger are not compared: the lines are of the given keys."""
+        ledger, keys = self.begin(2), Keys(self.chance.randbytes(16), KEYS.loading)
+        ledger.kept = issued_by(KEYS, numbers_from(FIRST_NUMBER, 2), 1)
+        self.path.write_bytes(ledger.image)
+        self.check(ledger, FIRST_NUMBER, 2, keys=keys, again=True)
 
 
 class Out(IssueCase):
@@ -83,7 +94,7 @@ class Out(IssueCase):
         self.assert_ended(self.run_issue(*self.out_words(3)), 0, b"", b"", "issue --out")
         self.assertEqual(self.lines(), numbers_from(FIRST_NUMBER, 3))
         self.assertEqual(self.out.stat().st_mode & 0o777, 0o600)
-        ledger.numbers = numbers_from(FIRST_NUMBER, 3)
+        ledger.keep(KEYS, numbers_from(FIRST_NUMBER, 3))
         self.assertEqual(self.path.read_bytes(), ledger.image)
 
     def test_numbers_passed_over(self) -> None:
@@ -133,13 +144,14 @@ class Out(IssueCase):
         """It takes no write behind some byte. The number of the line that was begun is spent, and its line
         is made again."""
         count = 3
-        for room in (count * RECORD, LINE_LENGTH, LINE_LENGTH + 1, count * LINE_LENGTH - 1):
+        size = RECORD * (1 + count)
+        for room in (size, size + 1, 2 * LINE_LENGTH, 2 * LINE_LENGTH + 1, count * LINE_LENGTH - 1):
             ledger = self.begin(count)
             ended = self.run_issue(*self.out_words(count), limits=Limits(file_size=room))
             self.assert_ended(ended, 1, b"", WRITE_FAILED, f"{room} bytes")
             whole = self.out.read_bytes()[: room // LINE_LENGTH * LINE_LENGTH]
             done = [it.number for it in read_lines(whole, KEYS)]
-            ledger.numbers = numbers_from(FIRST_NUMBER, len(done) + 1)
+            ledger.keep(KEYS, numbers_from(FIRST_NUMBER, len(done) + 1))
             self.assertEqual(done, ledger.numbers[:-1])
             self.assertEqual(self.path.read_bytes(), ledger.image)
             self.check(ledger, ledger.numbers[-1], 1, again=True)

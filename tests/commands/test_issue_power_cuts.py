@@ -6,8 +6,9 @@ from dataclasses import dataclass
 from typing import Callable, Iterator, Optional, Sequence
 
 from ..support.commands.issue_cuts import FOLDER, LEDGER, LINES, Left, cuts_of, whole_lines_in
-from ..support.commands.issuing import Ledger, numbers_from, read_lines
-from ..support.formats.log_file import numbers_in
+from ..support.commands.issuing import Ledger, issued_by, numbers_from, numbers_of, read_lines
+from ..support.formats.ledger_file import Kept
+from ..support.formats.opened_ledger import Refusal, opened
 from ..support.standards.dukpt import serial_text
 from ..support.system.traced_files import SYNCS, WRITES, Call, traced
 from .test_issue import FIRST_NUMBER, KEYS, IssueCase, passed_over
@@ -123,8 +124,10 @@ class PowerCuts(IssueCase):
 
     def judge(self, run: Run, left: Left) -> list[int]:
         """The numbers that are spent and have no whole line."""
-        spent = [int.from_bytes(it, "big") for it in numbers_in(left.ledger, ROOM)]
+        kept = self.kept_in(left)
+        spent = numbers_of(kept)
         self.assertEqual(spent, numbers_from(FIRST_NUMBER, len(spent)))
+        self.assertEqual(kept[run.there :], issued_by(KEYS, spent[run.there :], 1))
         made = [it.number for it in read_lines(left.whole_lines, KEYS)]
         self.assertEqual(set(made) - set(spent), set(), WITHOUT_NUMBER)
         missing = [it for it in spent if it not in (*run.elsewhere, *made)]
@@ -135,14 +138,22 @@ class PowerCuts(IssueCase):
         """All others are issued, those without a line are made again, and each number has one then."""
         self.path.write_bytes(left.ledger)
         self.put(LINES, left.lines)
-        spent = len(numbers_in(left.ledger, ROOM))
+        kept = self.kept_in(left)
+        spent = len(kept)
         found = [*run.elsewhere, *self.numbers_of(left.lines)]
         found += self.lines_of(FIRST_NUMBER, run.count, passed_over(spent))
         for number in missing:
             found += self.lines_of(number, 1, again=True)
         self.assertEqual(sorted(found), numbers_from(FIRST_NUMBER, run.count), f"{left}")
-        ledger = Ledger(ROOM, numbers_from(FIRST_NUMBER, run.count))
+        ledger = Ledger(ROOM)
+        ledger.kept = kept
+        ledger.keep(KEYS, numbers_from(FIRST_NUMBER, run.count)[spent:])
         self.assertEqual(self.path.read_bytes(), ledger.image)
+
+    def kept_in(self, left: Left) -> list[Kept]:
+        kept = opened(left.ledger)
+        assert not isinstance(kept, Refusal), kept
+        return kept
 
     def lines_of(self, first: int, count: int, faults: bytes = b"", again: bool = False) -> list[int]:
         """The numbers whose lines a run writes into another file, which it makes for a line alone."""

@@ -23,7 +23,7 @@ from ..support.commands.json_answers import (
 from ..support.commands.shown import journal_ended, log_ended
 from ..support.formats.images import log_disk
 from ..support.formats.journal_records import DAMAGES, Journals, journal_of
-from ..support.formats.log_file import RECORD
+from ..support.formats.ledger_file import RECORD, DamagedLedger, shown_ledger
 from ..support.models.model_journal import payments_of_all
 from ..support.program import COMMANDS, SECONDS, Ended, Limits, Program, Word, spoken
 from ..support.service.client import payments
@@ -196,11 +196,13 @@ class Commands(JsonCase):
 
     def test_files(self) -> None:
         """Of files that are made nothing is said."""
-        for words in (["new-log", "a", "3"], ["new-journal", "b", "3"], ["copy-journal", "b", "c"]):
+        for words in (["new-log", "a", "3"], ["new-journal", "b", "3"], ["copy-journal", "b", "c"],
+                      ["new-ledger", "d", "3"], ["copy-ledger", "a", "e"]):
             self.assert_ended(self.run_here(self.with_json(words)), 0, b"", b"", spoken(words))
             self.assertEqual(objects_in(self.run_here(self.with_json(words)).faults)[0][0][0], "fault")
         self.assert_ended(self.run_here(self.with_json(["grow-journal", "b", "3"])), 0, b"", b"", "grown")
-        for kind, name in (("log", "a"), ("journal", "b"), ("journal", "c")):
+        for kind, name in (("log", "a"), ("journal", "b"), ("journal", "c"), ("ledger", "d"),
+                           ("ledger", "e")):
             self.check_alone(["show", kind, name])
 
 
@@ -394,7 +396,9 @@ class Issued(JsonCase):
         found = self.run_here(self.issuing())
         self.assertEqual(self.numbers_in(found), NUMBERS)
         self.assertEqual((found.status, found.faults), (0, b""))
-        self.assertEqual((self.home / "ledger").read_bytes(), Ledger(9, NUMBERS).image)
+        ledger = Ledger(9)
+        ledger.keep(KEYS, NUMBERS)
+        self.assertEqual((self.home / "ledger").read_bytes(), ledger.image)
         found = self.run_here(self.issuing())
         self.demand(found, 1, [], [[("fault", f"{FIRST}: issued")]], "issued")
 
@@ -417,8 +421,9 @@ class Issued(JsonCase):
         """An object is written before the next number is spent. The limit is that of the ledger too,
         which is shorter."""
         self.begin(5)
-        length, size = len(self.run_here(self.issuing()).output) // 5, 5 * RECORD
-        for room in (size, length - 1, length, length + 1, 2 * length + 7, 5 * length - 1):
+        length, size = len(self.run_here(self.issuing()).output) // 5, RECORD * (1 + 5)
+        for room in (size, 2 * length - 1, 2 * length, 2 * length + 7, 4 * length + 1,
+                     5 * length - 1):
             self.begin(5)
             with open(self.home / "output", "wb") as output:
                 ended = self.run_here(self.issuing(), output=output.fileno(),
@@ -428,12 +433,21 @@ class Issued(JsonCase):
             self.assertEqual(len(written), room)
             self.assertEqual(self.numbers_in(written[: count * length]), NUMBERS[:count])
             # The number of the object that was begun is spent, and none behind it.
-            spent = Ledger(5, NUMBERS[: count + 1]).image
-            self.assertEqual((self.home / "ledger").read_bytes(), spent, f"{room} bytes")
+            spent = Ledger(5)
+            spent.keep(KEYS, NUMBERS[: count + 1])
+            self.assertEqual((self.home / "ledger").read_bytes(), spent.image, f"{room} bytes")
+
+
+def ledger_ended(image: bytes) -> Ended:
+    """What `show ledger` does."""
+    try:
+        return Ended(0, shown_ledger(image).encode(), b"")
+    except DamagedLedger as damaged:
+        return Ended(1, b"", f"ledger refused at {damaged.args[0]}: Damaged\n".encode())
 
 
 class Stores(JsonCase):
-    """What logs and journals keep is one object, however much that is."""
+    """What logs, journals and ledgers keep is one object, however much that is."""
 
     weight = 10
 
@@ -458,6 +472,15 @@ class Stores(JsonCase):
             tally[plain.status] += 1
         self.assertEqual(set(tally), {0, 1})
         self.tells(f"{tally[0]} journals, {tally[1]} damaged ones")
+
+    def test_ledgers(self) -> None:
+        """Keys that runs issued, and numbers that were copied; and damaged ones."""
+        for count, copied in ((0, 0), (1, 0), (0, 3), (5, 5), (3, 2000)):
+            ledger = Ledger(count + copied + 1, numbers_from(int(FIRST, 16) + 9 * SPENT, copied))
+            ledger.keep(KEYS, NUMBERS[:count])
+            self.shows("ledger", ledger.image, ledger_ended(ledger.image))
+            damaged = ledger.image[:-1]
+            self.shows("ledger", damaged, ledger_ended(damaged))
 
     def test_a_large_journal(self) -> None:
         data = journal_of([[it] for it in payments_of_all(payments(20_000))], 1)

@@ -27,8 +27,10 @@ OWN = (
     (("issue", "--ledger", "l", "--out=o"), ["l", "o"]),
     (("new-log", "new", "7"), ["new"]),
     (("new-journal", "--explain", "new", "7"), ["new"]),
+    (("new-ledger", "--json", "new", "7"), ["new"]),
     (("grow-journal", "grown", "7", "--json"), ["grown"]),
     (("copy-journal", b"old", b"new"), ["new"]),
+    (("copy-ledger", "--json", "old", "new"), ["new"]),
 )
 
 

@@ -4,12 +4,13 @@ from __future__ import annotations
 from typing import Optional, Sequence
 
 from ..support.commands.everyday_rows import BASE
-from ..support.commands.issuing import numbers_from
+from ..support.commands.issuing import Ledger, numbers_from
 from ..support.commands.shown import journal_ended, log_ended
 from ..support.formats.bank import BANK, LONGEST, BankCase
 from ..support.formats.images import log_disk
 from ..support.formats.checked_journal import blank, checked, journal_of, plain_of
 from ..support.formats.journal_records import RECORD
+from ..support.formats.ledger_file import identity_of, ledger_image, shown_ledger
 from ..support.models.model_journal import payments_of_all
 from ..support.program import Ended, Limits, Word, spoken
 from ..support.service.client import payments
@@ -79,7 +80,7 @@ class LittleMemory(MemoryCase):
     def test_issued_numbers(self) -> None:
         """A run that passes over all of its numbers has their list; it prints nothing but
         how many those are, and the ledger is as before."""
-        data = log_disk(numbers_from(0, 20_000), 1)
+        data = Ledger(20_001, numbers_from(0, 20_000)).image
         self.write("ledger", data)
         words = ("issue", BASE, BASE, "0" * 20, "20000", "--ledger", "ledger", "--skip-issued")
         self.note = b"passed over 20000\n"
@@ -203,6 +204,32 @@ class JournalMemory(MemoryCase):
         self.wanted = blank(3000)
         told = self.try_sizes(("new-journal", "made", "3000"), b"", 20)
         self.assertLessEqual(set(told), {0})
+
+
+class LedgerMemory(MemoryCase):
+    """A ledger is shown, and a new one is whole, or nothing is left of it."""
+
+    is_making = False
+
+    def behind(self, is_done: bool, what: str) -> None:
+        made = self.home / "made"
+        if is_done and self.is_making:
+            image = made.read_bytes()
+            self.assertEqual(image, ledger_image([], 3000, identity_of(image) or 0), what)
+            made.unlink()
+        self.assertFalse(made.exists(), what)
+
+    def test_a_shown_ledger(self) -> None:
+        """All of it is printed, or nothing."""
+        data = Ledger(20_001, numbers_from(0, 20_000)).image
+        self.write("ledger", data)
+        told = self.try_sizes(("show", "ledger", "ledger"), shown_ledger(data).encode(), 20)
+        self.assertEqual(set(told), {0})
+
+    def test_a_new_ledger(self) -> None:
+        """It takes the memory of a piece of zeros."""
+        self.is_making = True
+        self.assertLessEqual(set(self.try_sizes(("new-ledger", "made", "3000"), b"", 20)), {0})
 
 
 class GrownJournalMemory(MemoryCase):

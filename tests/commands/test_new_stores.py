@@ -1,5 +1,5 @@
-"""`new-log` and `new-journal`: what they make, what they refuse, and that a refusal leaves nothing and
-changes nothing."""
+"""`new-log`, `new-journal` and `new-ledger`: what they make, what they refuse, and that a refusal
+leaves nothing and changes nothing."""
 from __future__ import annotations
 
 import os
@@ -8,10 +8,12 @@ from collections import Counter
 from pathlib import Path
 from typing import ClassVar
 
-from ..support.formats import journal_records, log_file
+from ..support.commands.everyday_rows import BASE, FIRST
+from ..support.formats import journal_records, ledger_file, log_file
 from ..support.formats.checked_journal import HEADER, blank, identity_of
 from ..support.formats.journal_file import DamagedJournal, payments_in
 from ..support.formats.log_file import log_image
+from ..support.formats.opened_ledger import Refusal, opened
 from ..support.program import NO_LIMITS, Ended, Limits
 from ..support.service.client import payments
 from ..support.service.journal_case import JournalCase
@@ -77,15 +79,19 @@ class StoreCase(JournalCase):
             return "absent"
         left = self.made.read_bytes()
         is_whole = self.is_blank(left, self.many)
-        words = ("serve", "bank.toml", f"--{self.store}", self.made)
-        self.check(words, [], b"", "" if is_whole else self.failed, what=what)
+        self.use(is_whole, what)
         if self.store == "log" and not is_whole:
             self.assertEqual(left, b"", what)
         return "whole" if is_whole else "refused"
 
+    def use(self, is_whole: bool, what: str) -> None:
+        """That a service comes up over the file, or refuses it."""
+        words = ("serve", "bank.toml", f"--{self.store}", self.made)
+        self.check(words, [], b"", "" if is_whole else self.failed, what=what)
+
 
 class NewStores:
-    """What both commands do."""
+    """What each command does."""
 
     def test_zeros(self: StoreCase) -> None:
         """Each byte is written: none of the file is a hole."""
@@ -125,8 +131,8 @@ class NewStores:
             self.refuse(self.cannot_make, self.store, "3", Limits(file_size=size))
 
     def test_calls(self: StoreCase) -> None:
-        """It is made, locked, written and synced, and then its folder. The first byte of a journal is
-        right once it has its size."""
+        """It is made, locked, written and synced, and then its folder. The first byte of a journal
+        and of a ledger is right once it has its size."""
         for records in (1, self.many):
             ended, calls = self.traced(records)
             self.assert_output(ended, b"", "", "traced")
@@ -162,51 +168,40 @@ class NewLogs(NewStores, StoreCase):
     def is_blank(self, image: bytes, records: int) -> bool:
         return image == bytes(self.size_of(records))
 
-    def test_a_service_and_a_run_of_issue_over_it(self) -> None:
+    def test_a_service_over_it(self) -> None:
         self.assert_output(self.make("log", "2"), b"", "", "two numbers")
         self.room = 2
         requests = payments(3)
         self.check_requests(ON_LOG, requests, what="the third finds no room")
         self.assertEqual(self.log.read_bytes(), log_image(numbers_of(requests[:2]), 2))
-        self.assert_output(self.make("ledger", "2"), b"", "", "a ledger")
-        base = "0123456789ABCDEFFEDCBA9876543210"
-        ended = self.program.run("issue", base, LOADING, "FFFF9876543210E00000", "2", "--ledger", "ledger",
-                                 folder=self.home)
-        self.assertEqual((ended.status, ended.faults, ended.output.count(b"\n")), (0, b"", 2))
 
 
-class NewJournals(NewStores, StoreCase):
-    store, record, many, not_written = "journal", journal_records.RECORD, 5000, range(1)
+class HeadedStores(NewStores):
+    """What the commands do that write a header."""
 
-    def size_of(self, records: int) -> int:
+    def size_of(self: StoreCase, records: int) -> int:
         return HEADER + self.record * records
 
-    def is_blank(self, image: bytes, records: int) -> bool:
-        identity = identity_of(image)
-        return identity is not None and image == blank(records, identity)
+    def is_blank(self: StoreCase, image: bytes, records: int) -> bool:
+        identity = self.identity_in(image)
+        return identity is not None and image == self.blank(records, identity)
 
-    def test_identities(self) -> None:
+    def test_identities(self: StoreCase) -> None:
         """Each has another one, of the system's random device."""
         found = set()
         for name in ("one", "two", "three"):
             self.assert_output(self.make(name, "1"), b"", "", name)
-            found.add(identity_of((self.home / name).read_bytes()))
+            found.add(self.identity_in((self.home / name).read_bytes()))
         self.assertEqual(len(found), 3, found)
 
-    def test_a_service_over_it(self) -> None:
-        self.assert_output(self.make("journal", "2"), b"", "", "two payments")
-        requests = payments(3)
-        self.check_file(requests, what="the third finds no room")
-        self.assertEqual(len(self.kept()), 2)
-
-    def test_a_full_file_system(self) -> None:
+    def test_a_full_file_system(self: StoreCase) -> None:
         """The file gets its size, which takes no room, and some of its zeros. Then it is removed, and
         all room is free again. With the page that it lacks it is made."""
         needed = 40
         for pages in (1, 15, 16, 17, needed - 1, needed):
             small, what = SmallFiles(self.folder(), pages), f"{pages} of {needed} pages"
             self.addCleanup(small.close)
-            made = small.folder / "journal"
+            made = small.folder / self.store
             ended = self.make(os.fspath(made), str(needed * PAGE // self.record - 1))
             if pages < needed:
                 self.assert_output(ended, b"", self.cannot_make, what)
@@ -217,18 +212,29 @@ class NewJournals(NewStores, StoreCase):
                 self.assertTrue(self.is_blank(made.read_bytes(), needed * PAGE // self.record - 1), what)
                 self.assertEqual(small.free(), 0, what)
 
-    def test_any_bytes_since_a_sync(self) -> None:
+    def test_any_bytes_since_a_sync(self: StoreCase) -> None:
         """A loss of power may leave any where the file was written since its last sync, and it is no
-        journal then, or keeps nothing: for each value of the byte that is written last, too."""
+        such store then, or keeps nothing: for each value of the byte that is written last, too."""
         found = Counter[str]()
         for records in (1, 3):
             calls = self.traced(records)[1]
-            states = [*unsynced_of(calls, "sub/journal", self.made.read_bytes())]
+            states = [*unsynced_of(calls, f"sub/{self.store}", self.made.read_bytes())]
             self.assertEqual(states[-1].spans, (range(1, 2),), "the last write")
             for state in states:
                 for left in state.left(self.chance):
                     found[self.judge_lost(left, f"{records} records: {state}")] += 1
         self.assertEqual(set(found), {"refused", "whole"})
+
+
+class NewJournals(HeadedStores, StoreCase):
+    store, record, many, not_written = "journal", journal_records.RECORD, 5000, range(1)
+    identity_in, blank = staticmethod(identity_of), staticmethod(blank)
+
+    def test_a_service_over_it(self) -> None:
+        self.assert_output(self.make("journal", "2"), b"", "", "two payments")
+        requests = payments(3)
+        self.check_file(requests, what="the third finds no room")
+        self.assertEqual(len(self.kept()), 2)
 
     def judge_lost(self, left: bytes, what: str) -> str:
         try:
@@ -240,3 +246,41 @@ class NewJournals(NewStores, StoreCase):
             return "refused"
         self.assertEqual(kept, [], f"{what}: {left.hex()}")
         return "whole"
+
+
+def blank_ledger(records: int, identity: int) -> bytes:
+    return ledger_file.ledger_image([], records, identity)
+
+
+class NewLedgers(HeadedStores, StoreCase):
+    store, record, many, not_written = "ledger", ledger_file.RECORD, 5000, range(1)
+    identity_in, blank = staticmethod(ledger_file.identity_of), staticmethod(blank_ledger)
+
+    def issue(self, path: Path, count: int) -> Ended:
+        return self.program.run("issue", BASE, LOADING, FIRST, str(count), "--ledger", path,
+                                folder=self.home)
+
+    def use(self, is_whole: bool, what: str) -> None:
+        """That a run of `issue` takes the file, or says that it is no ledger, of either version."""
+        before, ended = self.made.read_bytes(), self.issue(self.made, 1)
+        if is_whole:
+            self.assertEqual((ended.status, ended.faults), (0, b""), what)
+            self.assertEqual(len(ledger_file.kept_in(self.made.read_bytes())), 1, what)
+        else:
+            self.assert_output(ended, b"", Refusal.DAMAGED.value, what)
+            self.assertEqual(self.made.read_bytes(), before, what)
+
+    def test_a_run_of_issue_over_it(self) -> None:
+        self.assert_output(self.make("ledger", "2"), b"", "", "two keys")
+        ended = self.issue(self.file, 2)
+        self.assertEqual((ended.status, ended.faults, ended.output.count(b"\n")), (0, b"", 2))
+        self.assertEqual(len(ledger_file.kept_in(self.file.read_bytes())), 2)
+        ended = self.program.run("issue", BASE, LOADING, FIRST, "3", "--ledger", self.file,
+                                 "--skip-issued", folder=self.home)
+        self.assert_output(ended, b"", "ledger: full", "a third")
+
+    def judge_lost(self, left: bytes, what: str) -> str:
+        self.made.write_bytes(left)
+        is_whole = self.identity_in(left) is not None and opened(left) == []
+        self.use(is_whole, f"{what}: {left.hex()}")
+        return "whole" if is_whole else "refused"

@@ -10,7 +10,8 @@ from ..support.commands.everyday_rows import (
     BASE, FIRST, IKSN, INITIAL, KEY_BLOCK, RIGHT, SERIAL, ZONE)
 from ..support.formats.bank import SCRIPT
 from ..support.formats.images import image_of
-from ..support.formats.log_file import RECORD
+from ..support.formats.ledger_file import ledger_image
+from ..support.formats.log_file import log_image
 from ..support.listing import own_files
 from ..support.models.model_journal import payments_of_all
 from ..support.program import Ended, Program, behind_shell, spoken
@@ -37,6 +38,7 @@ MORE = (
     ("show", "image", "@image.txt", "--show"),
     ("show", "log", "log"),
     ("show", "journal", "journal"),
+    ("show", "ledger", "ledger"),
     ("issue", SECRET, "@zone.txt", FIRST, "2", "--ledger", "ledger"),
     ("issue", SECRET, "@zone.txt", FIRST, "2", "--skip-issued", "--ledger", "ledger", "--out", "blocks"),
     ("run", "bank.toml", "all.script"),
@@ -46,8 +48,10 @@ MORE = (
     ("serve", "bank.toml", "--journal", "journal"),
     ("new-log", "new.log", "7"),
     ("new-journal", "new", "7"),
+    ("new-ledger", "new.ledger", "7"),
     ("grow-journal", "journal", "7"),
     ("copy-journal", "journal", "copy"),
+    ("copy-ledger", "old.ledger", "copy.ledger"),
     ("help",),
     ("help", "derive"),
     ("--version",),
@@ -75,7 +79,8 @@ class OpenedFiles(JournalCase):
         image = image_of(registers_at(bytes.fromhex(INITIAL), IKSN, 3))
         self.write("image.txt", f"{image.hex()}\n".encode())
         self.make_log(5)
-        self.write("ledger", bytes(5 * RECORD))
+        self.write("ledger", ledger_image([], 5))
+        self.write("old.ledger", log_image([], 5))
         self.make_journal(7, [payments_of_all(payments(3)[2:])])
 
     def traced(self, words: Sequence[str]) -> tuple[Ended, list[str]]:

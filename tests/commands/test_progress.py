@@ -9,7 +9,8 @@ from typing import Iterable, Optional, Sequence
 from ..support.case import ProgramCase
 from ..support.commands.batches import ITEMS_REFUSED
 from ..support.commands.everyday_rows import BASE, FIRST, RIGHT, SERIAL
-from ..support.commands.issuing import Keys, bytes_of, numbers_from, read_lines
+from ..support.commands.issuing import Keys, Ledger, bytes_of, numbers_from, read_lines
+from ..support.formats import ledger_file
 from ..support.formats.checked_journal import (
     HEADER, blank, header_of, identity_of, journal_of, with_check_sums)
 from ..support.formats.journal_records import RECORD, Payment
@@ -32,9 +33,9 @@ FIRST_NUMBER = int(FIRST, 16)
 UNKNOWN = 10_000
 # So many items and about as many: fewer than a hundred, a hundredth that is no whole item.
 COUNTS = (1, 2, 99, 100, 101, 199, 200, 201, 250, 1000)
-RECORDS = {"new-log": 16, "new-journal": 32}
+RECORDS = {"new-log": 16, "new-journal": 32, "new-ledger": 32}
 # A header is a record more.
-HEADERS = {"new-log": 0, "new-journal": 1}
+HEADERS = {"new-log": 0, "new-journal": 1, "new-ledger": 1}
 PIECE = 1 << 16
 
 
@@ -60,8 +61,10 @@ def faults_of(lines: Iterable[str]) -> bytes:
 
 
 def without_identity(image: bytes) -> bytes:
-    """A file without what is drawn at each run: of a journal, its identity, and the check sums that it is
-    part of."""
+    """A file without what is drawn at each run: of a journal and of a new ledger, its identity, and
+    the check sums that it is part of."""
+    if ledger_file.identity_of(image) is not None and not any(image[HEADER:]):
+        return ledger_file.header_of(0) + image[HEADER:]
     identity = identity_of(image)
     if identity is None:
         return image
@@ -190,8 +193,7 @@ class Issued(ProgressCase):
 
     def keep_ledger(self, room: int, *issued: int) -> None:
         """A ledger with the numbers of these places, of those from the first one on."""
-        numbers = bytes_of(FIRST_NUMBER + at * SPENT for at in issued)
-        self.keep("ledger", log_image(numbers, room))
+        self.keep("ledger", Ledger(room, [FIRST_NUMBER + at * SPENT for at in issued]).image)
 
     def check(self, words: Sequence[Word], places: Sequence[int], lines: Sequence[str],
               behind: str = "", name: Optional[str] = None) -> None:
@@ -295,7 +297,7 @@ class Batches(ProgressCase):
 
 
 class Shown(ProgressCase):
-    """The lines of the output of `show log` and `show journal`."""
+    """The lines of the output of `show log`, `show journal` and `show ledger`."""
 
     def test_logs(self) -> None:
         """Two lines, and one for each terminal."""
@@ -312,9 +314,17 @@ class Shown(ProgressCase):
             ended = self.tells_of(["show", "journal", "journal"], told(2 * count + 4))
             self.assertEqual(ended.output.count(b"\n"), 2 * count + 4)
 
+    def test_ledgers(self) -> None:
+        """Four lines, and one for each key."""
+        for count in (1, UNKNOWN - 5, UNKNOWN - 4):
+            self.keep("ledger", Ledger(count, numbers_from(FIRST_NUMBER, count)).image)
+            ended = self.tells_of(["show", "ledger", "ledger"], told(count + 4))
+            self.assertEqual(ended.output.count(b"\n"), count + 4)
+
     def test_refused(self) -> None:
         self.keep("log", bytes(15))
-        for words in (["show", "log", "log"], ["show", "journal", "log"], ["show", "log", "missing"]):
+        for words in (["show", "log", "log"], ["show", "journal", "log"], ["show", "ledger", "log"],
+                      ["show", "log", "missing"]):
             self.tells_of(words, [], 1)
 
 
@@ -325,9 +335,9 @@ class NewFiles(ProgressCase):
         made = self.files()
         self.assertEqual([*made], ["made"])
         image = made["made"]
-        identity = identity_of(image) if HEADERS[command] else None
-        wanted = bytes(RECORDS[command] * count) if identity is None else blank(count, identity)
-        self.assertEqual(image, wanted)
+        wanted = {"new-log": bytes(RECORDS[command] * count), "new-journal": blank(count, 0),
+                  "new-ledger": ledger_file.ledger_image([], count, 0)}[command]
+        self.assertEqual(without_identity(image), wanted)
 
     def test_records(self) -> None:
         for command, length in RECORDS.items():
@@ -437,6 +447,7 @@ class LinesThatAreLost(ProgressCase):
         closed = behind_shell(self.folder(), self.program, "exec 2>&-")
         for words, given in ((["walk", BASE, IKSN, "250"], b""), (["new-log", "made", "250"], b""),
                              (["new-journal", "made", "250"], b""),
+                             (["new-ledger", "made", "250"], b""),
                              (["copy-journal", "journal", "made"], b""),
                              (DERIVE.words, item * UNKNOWN)):
             wanted, left = self.run_with(words, given=given)

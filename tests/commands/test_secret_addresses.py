@@ -5,7 +5,7 @@ place the texts of their keys have both a digit or both a letter, and so can be 
 watched from its first read of requests on: before that it makes key blocks of its configuration's keys and
 opens them again, once, by tables. Of commands that print keys, a digit that is written may be looked up in a
 table of the sixteen digits. A journal's check sum is looked up by bytes of what is kept, so of a request's
-MAC, which comes in a frame.
+MAC, which comes in a frame, and a ledger's by those of check values.
 """
 from __future__ import annotations
 
@@ -20,7 +20,7 @@ from ..support.case import Case, ProgramCase
 from ..support.commands.issuing import Keys, numbers_from, read_lines
 from ..support.formats.bank import BANK
 from ..support.formats.journal_file import make_journal, records_for
-from ..support.formats.log_file import log_image
+from ..support.formats.ledger_file import ledger_image
 from ..support.library.library import demand, ran
 from ..support.program import Program, Word
 from ..support.service import client
@@ -176,13 +176,14 @@ class Commands(ProgramCase):
         self.assertTrue(found.is_digits_alone, found)
 
     def test_issue(self) -> None:
-        """Initial keys, their check values and key blocks, and once more those that are issued."""
+        """Initial keys, their check values and key blocks, and once more those that are issued. The
+        check values have check sums in the ledger."""
         folders, keys = [], []
         for bdk, loading in zip(alike(self.chance), alike(self.chance)):
             folder = self.folder()
             (folder / "bdk").write_text(f"{bdk}\n")
             (folder / "loading").write_text(f"{loading}\n")
-            (folder / "ledger").write_bytes(log_image([], ISSUED))
+            (folder / "ledger").write_bytes(ledger_image([], ISSUED))
             folders.append(folder)
             keys.append(Keys(bytes.fromhex(bdk), bytes.fromhex(loading)))
         for added in ((), ("--again",)):
@@ -192,7 +193,7 @@ class Commands(ProgramCase):
                 self.assertEqual([line.number for line in read_lines(it.output, its)],
                                  numbers_from(IKSN, ISSUED))
             self.tells(str(found))
-            self.assertTrue(found.is_digits_alone, found)
+            self.assertTrue(found.is_tables_alone, found)
 
     def test_tables_are_seen(self) -> None:
         found, lines = self.printed("derive", "@bdk", f"{IKSN + 1:X}")

@@ -327,7 +327,7 @@ class Rows(ShowCase):
             self.assert_ended(found, wanted.status, wanted.output, wanted.faults, path.name)
 
     def test_kinds(self) -> None:
-        for kind in ("", "x", "Frame", "frames", "frame ", "LOG", "@frame"):
+        for kind in ("", "x", "Frame", "frames", "frame ", "LOG", "@frame", "ledgers", "Ledger"):
             self.refuses("KIND refused", kind, REQUEST)
         self.refuses("WHAT: cannot read", "x", "@missing")
 

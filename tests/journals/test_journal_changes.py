@@ -4,12 +4,13 @@ leaves is never told as damage. What is wanted stands in docs/FORMATS.md, and in
 from __future__ import annotations
 
 import os
+import random
 from typing import Iterable, Sequence, TypeVar
 
 from ..support.commands.shown import journal_ended
 from ..support.formats import opened_journal
 from ..support.formats.checked_journal import (
-    HEADER, SAID, blank, journal_of, room_in, with_check_sums)
+    HEADER, blank, journal_of, room_in, with_check_sums)
 from ..support.formats.journal_file import entries_in
 from ..support.formats.journal_records import OPEN, RECORD, Entry, Group, starts_of
 from ..support.formats.opened_journal import Refusal, is_found, opened
@@ -108,6 +109,19 @@ def flipped(image: bytes, at: int, bits: int) -> bytes:
     return bytes(changed)
 
 
+def flipped_run(image: bytes, first: int, bits: bytes) -> bytes:
+    """A file of which the bytes from a place on were changed by these bits."""
+    changed = bytearray(image)
+    for at, it in enumerate(bits, first):
+        changed[at] ^= it
+    return bytes(changed)
+
+
+def run_of(count: int, chance: random.Random) -> bytes:
+    """The bits of a change of so many bytes, the first and the last of which change."""
+    return bytes(chance.randrange(at in (0, count - 1), 256) for at in range(count))
+
+
 def record_of(image: bytes, record: int) -> bytes:
     """That of an entry, by its place behind the header."""
     return image[HEADER + RECORD * record :][:RECORD]
@@ -151,19 +165,29 @@ class Changes:
                 self.assertEqual(self.is_refused(runs, changed, what), at > 0 or not self.takes_old, what)
 
     def test_four_bytes(self: ChangeCase) -> None:
-        """Changes of up to four bytes that follow one another, of what a check sum is of."""
-        groups = self.groups(True)
-        image = journal_of(groups, ROOM, identity=self.identity)
+        """Each run of up to four bytes behind a gate, of the header and of each record, changed at both of
+        its ends: the check sum and the zero behind it may be in it."""
+        image = journal_of(self.groups(True), ROOM, identity=self.identity)
+        runs_of_bytes = [(RECORD * record + at, count) for record in range(1 + sum(SIZES))
+                         for count in range(1, 5) for at in range(1, RECORD + 1 - count)]
+        with QuickRuns(self.program) as runs:
+            for first, count in self.some(runs_of_bytes):
+                bits = run_of(count, self.chance)
+                changed = flipped_run(image, first, bits)
+                self.demand(runs, changed, f"{bits.hex()} at {first}")
+
+    def test_runs_of_bits(self: ChangeCase) -> None:
+        """Runs of up to 32 bits that begin at any bit behind a gate, the lowest bit of a byte being
+        its first."""
+        image = journal_of(self.groups(True), ROOM, identity=self.identity)
         with QuickRuns(self.program) as runs:
             for _ in self.some(range(300 * self.times)):
-                count = self.chance.randint(2, 4)
-                record = HEADER + RECORD * self.chance.randrange(sum(SIZES))
-                first = record + self.chance.randint(SAID.start, SAID.stop - count)
-                bits = self.chance.randrange(1, 1 << 8 * count).to_bytes(count, "big")
-                changed = bytearray(image)
-                for at, it in enumerate(bits, first):
-                    changed[at] ^= it
-                self.demand(runs, bytes(changed), f"{bits.hex()} at {first}")
+                record, count = self.chance.randrange(1 + sum(SIZES)), self.chance.randint(1, 32)
+                run = 1 | 1 << count - 1 | self.chance.getrandbits(count)
+                bits = run << self.chance.randint(0, 8 * (RECORD - 1) - count)
+                mask = bits.to_bytes(RECORD - 1, "little")
+                changed = flipped_run(image, RECORD * record + 1, mask)
+                self.demand(runs, changed, f"{bits:X} in record {record} of the file")
 
     def test_moved(self: ChangeCase) -> None:
         """A record at the place of another one, two that are exchanged, and a record of another journal,

@@ -54,6 +54,8 @@ BY_CHANGES = (
     ("test_lost_gates", (Way.ANY_GATE,)),
     ("test_torn", (Way.TORN_IS_DAMAGE,)),
 )
+# And what needs a reader of reversals, of which the stand-in of a service knows none.
+BY_RUNS = (("test_four_bytes", (Way.NO_CHECK_SUMS,)), ("test_runs_of_bits", (Way.NO_CHECK_SUMS,)))
 
 
 class StandIns(InLives, StandInCase):
@@ -99,9 +101,9 @@ class Changed(StandInCase):
             self.judge(Served, test, ways)
 
     def test_shown(self) -> None:
-        for test, ways in BY_CHANGES:
+        for test, ways in (*BY_CHANGES, *BY_RUNS):
             self.judge(Shown, test, ways)
 
     def test_copied(self) -> None:
-        for test, ways in BY_CHANGES:
+        for test, ways in (*BY_CHANGES, *BY_RUNS):
             self.judge(Copied, test, ways)

@@ -1,4 +1,5 @@
-"""Files that are no logs or journals: a service, and a run of `issue`, leave each as it is, and say so."""
+"""Files that are no logs, journals or ledgers: a service, and a run of `issue`, leave each as it is, and
+say so."""
 from __future__ import annotations
 
 import gzip
@@ -7,12 +8,15 @@ from pathlib import Path
 from typing import Iterator, Sequence
 
 from ..support.case import ProgramCase
+from ..support.commands.issuing import Ledger, bytes_of, numbers_from
 from ..support.formats import journal_records
 from ..support.formats.bank import BANK
 from ..support.formats.checked_journal import checked, journal_of
 from ..support.formats.journal_records import RECORD as JOURNAL_RECORD
-from ..support.formats.left_files import JOURNAL, LOG, OLD_JOURNAL, Records
+from ..support.formats.ledger_file import RECORD as RECORD_LENGTH
+from ..support.formats.left_files import JOURNAL, LEDGER, LOG, OLD_JOURNAL, OLD_LEDGER, Records
 from ..support.formats.log_file import RECORD, log_image, record
+from ..support.formats.opened_ledger import Refusal
 from ..support.models.model_journal import payments_of_all
 from ..support.program import Ended, Word
 from ..support.service.client import payments
@@ -23,13 +27,18 @@ from .test_deployment import copied
 KEY = b"0123456789ABCDEFFEDCBA9876543210"
 LOADING = "3F419E1CB7079442AA37474C2EFBF8B8"
 FIRST = "FFFF9876543210E00000"
+# Numbers that no run here issues.
+OTHER = "FFFF9876550000000000"
 EXPLAIN = "--explain"
 
 # Commands over a file whose name stands behind them: its format, the line, and what explains it.
 ON_LOG = (["serve", "bank.toml", "--log"], LOG, "log: failed", "log")
 ON_JOURNAL = (["serve", "bank.toml", "--journal"], JOURNAL, "journal: failed", "journal")
-ON_LEDGER = (["issue", KEY.decode(), LOADING, FIRST, "2", "--ledger"], LOG, "ledger: damaged", "ledger")
+ON_LEDGER = (["issue", KEY.decode(), LOADING, FIRST, "2", "--ledger"], LEDGER, "ledger: damaged",
+             "ledger")
 STORES = (ON_LOG, ON_JOURNAL, ON_LEDGER)
+# Of these formats there is one of version 1, and its line.
+OLD = {"journal": (OLD_JOURNAL, OLD_VERSION), "ledger": (OLD_LEDGER, Refusal.OLD.value)}
 
 
 def whole(data: bytes, size: int) -> bytes:
@@ -83,11 +92,11 @@ class Others(ProgramCase):
         return bytes(image)
 
     def test_others(self) -> None:
-        for words, form, line, _ in STORES:
+        for words, form, line, name in STORES:
             for what, image in self.images(form.size):
                 # Random records may be such as one of version 1 leaves.
-                is_old = form is JOURNAL and OLD_JOURNAL.is_left(image)
-                self.refuse(words, image, OLD_VERSION if is_old else line, what)
+                old, old_line = OLD.get(name, (form, line))
+                self.refuse(words, image, old_line if old.is_left(image) else line, what)
 
     def test_copies(self) -> None:
         """None is copied as a journal, or as a log, that keeps nothing."""
@@ -105,9 +114,30 @@ class Others(ProgramCase):
         requests = payments(5)
         log = log_image(numbers_of(requests), 8)
         journal = journal_of([[it] for it in payments_of_all(requests)], 3)
+        ledger = Ledger(8, numbers_from(int(FIRST, 16), 5)).image
         self.refuse(ON_JOURNAL[0], log, ON_JOURNAL[2], "a log")
         for words, _, line, _ in (ON_LOG, ON_LEDGER):
             self.refuse(words, journal, line, "a journal")
+        for words, _, line, _ in (ON_LOG, ON_JOURNAL):
+            self.refuse(words, ledger, line, "a ledger")
+        ended = self.run_on(["grow-journal"], ledger, "3")
+        self.assert_ended(ended, 1, b"", b"journal: failed\n", "a ledger")
+        ended = self.run_on(["copy-journal"], ledger, "copy")
+        self.assert_ended(ended, 1, b"", b"journal: failed\n", "a ledger")
+        for kind, image in (("journal", ledger), ("log", ledger), ("ledger", journal),
+                            ("ledger", log)):
+            ended = self.run_on(["show", kind], image)
+            self.assert_ended(ended, 1, b"", f"{kind} refused at 0: Damaged\n".encode(), kind)
+
+    def test_a_ledger_of_version_1(self) -> None:
+        """A run of `issue` says how to come from it. So it does of zeros, as a new one was."""
+        for count, room in ((0, 1), (0, 5), (5, 5), (5, 8)):
+            image = log_image(bytes_of(numbers_from(int(FIRST, 16), count)), room)
+            self.refuse(ON_LEDGER[0], image, Refusal.OLD.value, "a ledger of version 1")
+            ended = self.run_on(ON_LEDGER[0], image, EXPLAIN)
+            told = (f"{Refusal.OLD.value}\nledger file: version 1; wanted: one of version 2; make "
+                    "it by dukpt copy-ledger OLD NEW\n")
+            self.assert_ended(ended, 1, b"", told.encode(), "explained")
 
     def test_a_journal_of_version_1(self) -> None:
         """A service over it says how to come from it. So it does of zeros, as a new one was."""
@@ -126,14 +156,18 @@ class Others(ProgramCase):
         served = refused = 0
         requests = payments(3)
         for _ in range(60 * self.times):
-            for words, form, line, name in (ON_LOG, ON_JOURNAL):
+            for words, form, line, name in STORES:
                 count = self.chance.randrange(4)
-                front = (log_image(numbers_of(requests[:count]), count) if form is LOG else
-                         journal_of([[it] for it in payments_of_all(requests[:count])], 0))
+                kept = payments_of_all(requests[:count])
+                front = {"log": log_image(numbers_of(requests[:count]), count),
+                         "journal": journal_of([[it] for it in kept], 0),
+                         "ledger": Ledger(count, numbers_from(int(OTHER, 16), count)).image}[name]
                 image = front + self.closed(form, self.chance.randrange(1 if count else 2, 6))
                 place = form.foreign(image)
                 ended = self.run_on_any(words, image)
-                if place is None:
+                if place is None and name == "ledger" and len(image) < RECORD_LENGTH * (3 + count):
+                    self.assertEqual((ended.status, ended.faults[:13]), (1, b"ledger: full\n"))
+                elif place is None:
                     self.assertEqual((ended.status, ended.faults), (0, b""), f"{words}: {image.hex()}")
                     served += 1
                 else:
@@ -160,13 +194,14 @@ class Others(ProgramCase):
     def test_explained(self) -> None:
         """What there is and what makes such a file."""
         for words, form, line, name in STORES:
-            making = "new-journal" if form is JOURNAL else "new-log"
+            making = {"log": "new-log", "journal": "new-journal", "ledger": "new-ledger"}[name]
             ended = self.run_on(words, b"", EXPLAIN)
             told = ended.faults.decode()
             self.assertTrue(told.startswith(f"{line}\n{name} file: empty; wanted: "), told)
             self.assertTrue(told.endswith(f"; make it by dukpt {making} FILE RECORDS\n"), told)
             ended = self.run_on(words, whole(BANK, form.size), EXPLAIN)
-            place = (OLD_JOURNAL if form is JOURNAL else form).foreign(whole(BANK, form.size))
+            front = whole(BANK, form.size)
+            place = OLD.get(name, (form, line))[0].foreign(front)
             told = f"{line}\nno {name} file: record {place} is neither open nor zero; wanted: "
             self.assertTrue(ended.faults.decode().startswith(told), str(ended))
 

@@ -13,7 +13,8 @@ LARGE = 1 << 20
 # The options that name a file of their command's own, behind them; `-o` and `-f` are those of strace. And
 # the commands that do, as which word behind them.
 OPTIONS = {"--log": "serve", "--journal": "serve", "--ledger": "issue", "--out": "issue", "-o": "-f"}
-COMMANDS = {"new-journal": 1, "new-log": 1, "grow-journal": 1, "copy-journal": 2}
+COMMANDS = {"new-journal": 1, "new-ledger": 1, "new-log": 1, "grow-journal": 1, "copy-journal": 2,
+            "copy-ledger": 2}
 
 
 class Strayed(AssertionError):

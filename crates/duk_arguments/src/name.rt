@@ -47,8 +47,12 @@ pub enum CommandName {
     NewLog,
     /// `new-journal`
     NewJournal,
+    /// `new-ledger`
+    NewLedger,
     /// `grow-journal`
     GrowJournal,
     /// `copy-journal`
     CopyJournal,
+    /// `copy-ledger`
+    CopyLedger,
 }

@@ -1,12 +1,14 @@
 -- What `issue` does is a run.
 use Rattle.std.proofs.Common.{◌≡◌, ◌<◌, ℕ, List, All, [], ◌∷◌, ◌++◌, inl, inr, get_or, length, refl, sym, ap, ◌∙◌, subst, arith, append-nil, append_assoc, length-append}
 use Rattle.std.proofs.lemmas.List.{get_or-map, get_or_append_left, length-map, map-append}
-use Rattle.duk_store.specs.Log.{LogMeaning, Numbers}
+use Rattle.duk_ledger.specs.Issued.{Issues}
+use Rattle.duk_ledger.specs.declared.issued.Issued.{Issued}
+use Rattle.duk_store.specs.Listed.{ListMeaning}
 use Rattle.duk_store.specs.Restart.{Restarted}
 use Rattle.duk_store.specs.declared.fault.StoreFault.{StoreFault}
 use Rattle.duk_store.specs.declared.fault.StoreFault.TheVariants as store
-use Rattle.duk_commands.specs.Issue.{AreOfOrder, Ends, HasIssued, IsRefusedBy, IsUnread, IssueFailed, Job, MayIssue, begun_places, iksns_of}
-use Rattle.duk_commands.specs.Ledger.{IsExtended, IsIssued}
+use Rattle.duk_commands.specs.Issue.{AreOfOrder, Ends, HasIssued, IsRefusedBy, IsUnread, IssueFailed, Job, MayIssue, begun_places, iksns_of, issues_of}
+use Rattle.duk_commands.specs.Ledger.{IsExtended, IsIssued, issue_at, next_run, numbers_of}
 use Rattle.duk_commands.specs.Lifetime.{AreFresh, IsRun}
 use Rattle.duk_commands.specs.Numbers.{FitsFrom, iksn_at, key_set}
 use Rattle.duk_commands.specs.declared.issue.fault.IssueFault.{IssueFault}
@@ -14,15 +16,15 @@ use Rattle.duk_commands.specs.declared.issue.fault.IssueFault.TheVariants as fau
 use Rattle.duk_commands.proofs.Members.{member_at}
 
 -- new places have numbers that are not issued, each another one
-pub fresh_places : (job : Job) (capacity : ℕ) (numbers : Numbers) (places : List ℕ) → MayIssue job capacity numbers places → AreFresh numbers (iksns_of job places)
-fresh_places job capacity numbers places may =
+pub fresh_places : (job : Job) (capacity : ℕ) (issues : Issues) (places : List ℕ) → MayIssue job capacity issues places → AreFresh issues (iksns_of job places)
+fresh_places job capacity issues places may =
     let first = job.order.first in
     let at : (k d : ℕ) → k < length (iksns_of job places) → get_or (iksns_of job places) k d ≡ iksn_at first (get_or places k 0) = λ k d within.
     get_or-map (iksn_at first) places k 0 d (omega (arith, within, length-map places (iksn_at first))) in
     record {
       new = λ k d within.
           let inside : k < length places = omega (arith, within, length-map places (iksn_at first)) in
-          subst (λ n. ¬ IsIssued numbers n) (sym (at k d within)) (((may.new.members (get_or places k 0)).0 (member_at places k 0 inside)).1);
+          subst (λ n. ¬ IsIssued issues n) (sym (at k d within)) (((may.new.members (get_or places k 0)).0 (member_at places k 0 inside)).1);
       once = λ i j d before within same.
           let inside : j < length places = omega (arith, within, length-map places (iksn_at first)) in
           let order = may.new.in_order i j 0 before inside in
@@ -31,56 +33,65 @@ fresh_places job capacity numbers places may =
     }
 
 -- and so have the first of them
-fresh_front : (numbers : Numbers) (front rest : List ℕ) → AreFresh numbers (front ++ rest) → AreFresh numbers front
-fresh_front numbers front rest fresh = record {
-  new = λ k d within. subst (λ n. ¬ IsIssued numbers n) (get_or_append_left front rest d k within) (fresh.new k d (omega (arith, within, length-append front rest)));
+fresh_front : (issues : Issues) (front rest : List ℕ) → AreFresh issues (front ++ rest) → AreFresh issues front
+fresh_front issues front rest fresh = record {
+  new = λ k d within. subst (λ n. ¬ IsIssued issues n) (get_or_append_left front rest d k within) (fresh.new k d (omega (arith, within, length-append front rest)));
   once = λ i j d before within same.
       fresh.once i j d before (omega (arith, within, length-append front rest))
       (get_or_append_left front rest d i (omega (arith, before, within)) ∙ same ∙ sym (get_or_append_left front rest d j within));
 }
 
-fresh_first : (job : Job) (capacity : ℕ) (numbers : Numbers) (done rest : List ℕ) → MayIssue job capacity numbers (done ++ rest) → AreFresh numbers (iksns_of job done)
-fresh_first job capacity numbers done rest may =
-    fresh_front numbers (iksns_of job done) (iksns_of job rest) (subst (λ list. AreFresh numbers list) (map-append (iksn_at job.order.first) done rest) (fresh_places job capacity numbers (done ++ rest) may))
+fresh_first : (job : Job) (capacity : ℕ) (issues : Issues) (done rest : List ℕ) → MayIssue job capacity issues (done ++ rest) → AreFresh issues (iksns_of job done)
+fresh_first job capacity issues done rest may =
+    fresh_front issues (iksns_of job done) (iksns_of job rest) (subst (λ list. AreFresh issues list) (map-append (iksn_at job.order.first) done rest) (fresh_places job capacity issues (done ++ rest) may))
 
 -- a place of an order is of the first's key set
 pub in_set : (first count place : ℕ) → FitsFrom first count → place < count → key_set (iksn_at first place) ≡ key_set first
 in_set first count place fits inside = let same = fits.same_set in omega (arith, same, inside)
 
-module _ {L : Type 0} (meaning : LogMeaning L) (job : Job) where
+module _ {L : Type 0} (meaning : ListMeaning L Issued) (job : Job) where
   -- a ledger that keeps the list that its restart found
-  extended_by_none : (old new : L) (numbers : Numbers) → Restarted (meaning.state_of old) (meaning.state_of new) numbers → IsExtended meaning old new numbers []
-  extended_by_none old new numbers restarted = record {
+  extended_by_none : (old new : L) (issues : Issues) → Restarted (meaning.state_of old) (meaning.state_of new) issues → IsExtended meaning old new issues []
+  extended_by_none old new issues restarted = record {
     was_found = restarted.was_found;
     keeps = record {
       nature = restarted.settles.nature;
       no_failure = restarted.settles.no_failure;
       runs = restarted.settles.runs;
-      finds = λ honest other. subst (λ list. (found : (meaning.state_of new).found other → other ≡ list) × (other ≡ list → (meaning.state_of new).found other)) (sym (append-nil numbers)) (restarted.settles.finds honest other);
+      finds = λ honest other. subst (λ list. (found : (meaning.state_of new).found other → other ≡ list) × (other ≡ list → (meaning.state_of new).found other)) (sym (append-nil issues)) (restarted.settles.finds honest other);
     };
   }
 
-  fresh_none : (numbers : Numbers) → AreFresh numbers []
-  fresh_none numbers = record { new = λ k d within. absurd (omega (arith, within)); once = λ i j d before within. absurd (omega (arith, within)) }
+  -- the numbers of the keys that are kept are those that are printed
+  numbers_kept : (issues : Issues) (places : List ℕ) → iksns_of job places ≡ numbers_of (issues_of job issues places)
+  numbers_kept issues [] = refl
+  numbers_kept issues (place ∷ places) = ap (λ list. iksn_at job.order.first place ∷ list) (numbers_kept issues places)
+
+  fresh_none : (issues : Issues) → AreFresh issues []
+  fresh_none issues = record { new = λ k d within. absurd (omega (arith, within)); once = λ i j d before within. absurd (omega (arith, within)) }
 
   pub issued_run : (old new : Ends L) (has : HasIssued meaning job old new) → IsRun meaning old.ledger (iksns_of job has.places) new.ledger
   issued_run old new has = inr (inr (record {
     mid = new.ledger;
-    numbers = has.numbers;
+    issues = has.issues;
+    more = issues_of job has.issues has.places;
     extended = has.kept;
-    fresh = λ honest. fresh_places job (meaning.capacity old.ledger) has.numbers has.places (has.tested honest);
+    printed_are = numbers_kept has.issues has.places;
+    fresh = fresh_places job (meaning.capacity old.ledger) has.issues has.places has.tested;
     ends = inl refl;
   }))
 
   unread_run : (old new : Ends L) (why : StoreFault) → IsUnread meaning old new why → IsRun meaning old.ledger [] new.ledger
   unread_run old new why unread = inr (inl (record { why = why; refused = unread.failed; none_printed = refl }))
 
-  refused_run : (Refuses : Numbers → Type 0) (old new : Ends L) → IsRefusedBy meaning old new Refuses → IsRun meaning old.ledger [] new.ledger
+  refused_run : (Refuses : Issues → Type 0) (old new : Ends L) → IsRefusedBy meaning old new Refuses → IsRun meaning old.ledger [] new.ledger
   refused_run Refuses old new refused = inr (inr (record {
     mid = new.ledger;
-    numbers = refused.numbers;
-    extended = extended_by_none old.ledger new.ledger refused.numbers refused.kept;
-    fresh = λ honest. fresh_none refused.numbers;
+    issues = refused.issues;
+    more = [];
+    extended = extended_by_none old.ledger new.ledger refused.issues refused.kept;
+    printed_are = refl;
+    fresh = fresh_none refused.issues;
     ends = inl refl;
   }))
 
@@ -88,22 +99,25 @@ module _ {L : Type 0} (meaning : LogMeaning L) (job : Job) where
   failed_run old new fault.LedgerFailed (inl unread) = unread_run old new store.Device unread
   failed_run old new fault.LedgerFailed (inr not) = inr (inr (record {
     mid = not.mid;
-    numbers = not.numbers;
+    issues = not.issues;
+    more = issues_of job not.issues not.done;
     extended = not.kept;
-    fresh = λ honest. fresh_first job (meaning.capacity old.ledger) not.numbers not.done (not.last ∷ not.later) (not.tested honest);
-    ends = inr (iksn_at job.order.first not.last, inr (store.Device, not.failed));
+    printed_are = numbers_kept not.issues not.done;
+    fresh = fresh_first job (meaning.capacity old.ledger) not.issues not.done (not.last ∷ not.later) not.tested;
+    ends = inr (issue_at job.order (next_run not.issues) not.last, inr (store.Device, not.failed));
   }))
-  failed_run old new fault.LedgerDamaged (inl unread) = unread_run old new store.Damaged unread
-  failed_run old new fault.LedgerDamaged (inr refused) = refused_run _ old new refused
+  failed_run old new fault.LedgerDamaged unread = unread_run old new store.Damaged unread
   failed_run old new (fault.Issued iksn) refused = refused_run _ old new refused
   failed_run old new fault.LedgerFull refused = refused_run _ old new refused
   failed_run old new fault.OutOfMemory same = inl (record { untouched = ap (λ e. e.ledger) same; none_printed = refl })
   failed_run old new fault.WriteFailed cut = inr (inr (record {
     mid = new.ledger;
-    numbers = cut.numbers;
+    issues = cut.issues;
+    more = issues_of job cut.issues (cut.done ++ cut.last ∷ []);
     extended = cut.kept;
-    fresh = λ honest. fresh_first job (meaning.capacity old.ledger) cut.numbers (cut.done ++ cut.last ∷ []) cut.later
-        (subst (λ list. MayIssue job (meaning.capacity old.ledger) cut.numbers list) (sym (append_assoc cut.done (cut.last ∷ []) cut.later)) (cut.tested honest));
+    printed_are = numbers_kept cut.issues (cut.done ++ cut.last ∷ []);
+    fresh = fresh_first job (meaning.capacity old.ledger) cut.issues (cut.done ++ cut.last ∷ []) cut.later
+        (subst (λ list. MayIssue job (meaning.capacity old.ledger) cut.issues list) (sym (append_assoc cut.done (cut.last ∷ []) cut.later)) cut.tested);
     ends = inl refl;
   }))
   failed_run old new fault.BdkRefused refused = absurd refused
@@ -115,6 +129,7 @@ module _ {L : Type 0} (meaning : LogMeaning L) (job : Job) where
   failed_run old new (fault.NotIssued iksn) refused = absurd refused
   failed_run old new fault.PaddingUnread refused = absurd refused
   failed_run old new fault.LedgerUnopened refused = absurd refused
+  failed_run old new fault.LedgerOldVersion refused = absurd refused
   failed_run old new fault.OutUnmade refused = absurd refused
 
   -- all numbers that are printed are of the first's key set
@@ -155,4 +170,5 @@ module _ {L : Type 0} (meaning : LogMeaning L) (job : Job) where
   failed_set old new (fault.NotIssued iksn) refused = absurd refused
   failed_set old new fault.PaddingUnread refused = absurd refused
   failed_set old new fault.LedgerUnopened refused = absurd refused
+  failed_set old new fault.LedgerOldVersion refused = absurd refused
   failed_set old new fault.OutUnmade refused = absurd refused

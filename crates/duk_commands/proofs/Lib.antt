@@ -12,6 +12,7 @@ mod IssueOutcomes
 mod IssueRuns
 mod KeptLine
 mod KeysAreRead
+mod LaterRuns
 mod Lifetimes
 mod LinesInTurn
 mod MadeAgain

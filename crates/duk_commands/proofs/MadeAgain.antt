@@ -2,7 +2,8 @@
 use Rattle.std.proofs.Common.{◌≡◌, ◌<◌, ◌+◌, ℕ, zero, suc, Bool, List, [], ◌∷◌, ◌++◌, length, refl, sym, ap, ◌∙◌, subst, arith}
 use Rattle.duk_io.specs.Known.{Known}
 use Rattle.duk_io.specs.Sink.{IsWritten}
-use Rattle.duk_store.specs.Log.{LogMeaning}
+use Rattle.duk_ledger.specs.declared.issued.Issued.{Issued}
+use Rattle.duk_store.specs.Listed.{ListMeaning}
 use Rattle.duk_commands.specs.Again.{AreAllIssued, AreMadeAgain, IsMissing, NotMadeAgain, places_from}
 use Rattle.duk_commands.specs.Issue.{IsRefusedBy, ends}
 use Rattle.duk_commands.specs.IssuedLines.{AreLines, IsLine}
@@ -40,18 +41,17 @@ module _ (order : Order) (padding : List ℕ) (old : Known) where
         written = then before.text before.written written;
       }
 
-module _ {L : Type 0} (meaning : LogMeaning L) (order : Order) (padding : List ℕ) (old mid : L) (marks : List Bool)
-    (read : IsLedgerRead meaning old mid order.first order.count marks) where
+module _ {L : Type 0} (meaning : ListMeaning L Issued) (order : Order) (padding : List ℕ) (old mid : L) (marks : List Bool) (largest : ℕ)
+    (read : IsLedgerRead meaning old mid order.first order.count marks largest) where
   -- the first place without a mark has the first number that is not issued
   pub missing : (output : Known) (place iksn : ℕ) → IsFirstUnmarked marks place → iksn ≡ iksn_at order.first place → IsRefusedBy meaning (ends old output) (ends mid output) (IsMissing order iksn)
   missing output place iksn first is = record {
-    numbers = read.numbers;
+    issues = read.issues;
     kept = read.restarted;
-    refuses = λ honest.
-        let marked = read.marked honest in
+    refuses =
+        let marked = read.are_read.marked in
         let inside = first.inside in
         record {
-          initial = read.initial honest;
           place = place;
           inside = subst (λ size. place < size) read.size inside;
           missing = λ issued. first.unmarked ((marked place inside).1 issued);
@@ -62,18 +62,17 @@ module _ {L : Type 0} (meaning : LogMeaning L) (order : Order) (padding : List �
   }
 
   module _ (all : AreMarkedBefore marks (length marks)) (output new : Known) where
-    all_issued : (meaning.state_of old).honest → AreAllIssued read.numbers order.first order.count
-    all_issued honest place inside =
+    all_issued : AreAllIssued read.issues order.first order.count
+    all_issued place inside =
         let within = subst (λ size. place < size) (sym read.size) inside in
-        (read.marked honest place within).0 (all place within)
+        (read.are_read.marked place within).0 (all place within)
 
     -- all lines are made
     pub made : AreWritten order padding output new order.count → AreMadeAgain meaning order padding (ends old output) (ends mid new)
     made written = record {
-      numbers = read.numbers;
+      issues = read.issues;
       text = written.text;
       kept = read.restarted;
-      initial = read.initial;
       all_issued = all_issued;
       lines = written.lines;
       written = written.written;
@@ -82,13 +81,12 @@ module _ {L : Type 0} (meaning : LogMeaning L) (order : Order) (padding : List �
     -- not all are
     pub not_made : (why : IssueFault) → AreCut order padding output new why → NotMadeAgain meaning order padding (ends old output) (ends mid new) why
     not_made fault.WriteFailed is = record {
-      numbers = read.numbers;
+      issues = read.issues;
       last = is.last;
       text = is.before.text;
       line = is.line;
       mid = is.mid;
       kept = read.restarted;
-      initial = read.initial;
       all_issued = all_issued;
       inside = is.inside;
       lines = is.before.lines;
@@ -104,6 +102,7 @@ module _ {L : Type 0} (meaning : LogMeaning L) (order : Order) (padding : List �
     not_made fault.KcvDiffers is = absurd is
     not_made fault.PaddingUnread is = absurd is
     not_made fault.LedgerUnopened is = absurd is
+    not_made fault.LedgerOldVersion is = absurd is
     not_made fault.OutUnmade is = absurd is
     not_made fault.LedgerFailed is = absurd is
     not_made fault.LedgerDamaged is = absurd is

@@ -2,7 +2,7 @@
 use Rattle.std.proofs.Common.{◌≡◌, ◌≢◌, ◌⊎◌, inl, inr, ◌+◌, ◌<◌, ℕ, zero, suc, Bool, true, false, List, [], ◌∷◌, All, Contains, length, get_or, drop, refl, sym, subst, arith, drop-cons}
 use Rattle.std.specs.List.{AllPairs}
 use Rattle.std.proofs.lemmas.List.Kept.{AllPairs-cons}
-use Rattle.duk_store.specs.Log.{Numbers}
+use Rattle.duk_ledger.specs.Issued.{Issues}
 use Rattle.duk_commands.specs.Ledger.{AreNew}
 use Rattle.duk_commands.specs.Numbers.{iksn_at}
 use Rattle.duk_commands.specs.inner.Marks.{AreMarked, IsMarkedAlso, unmarked}
@@ -79,8 +79,8 @@ inside_order count marks size =
     all_members (λ place. place < count) (unmarked marks 0) (λ place is_in. let is = clear_of marks 0 place is_in in omega (arith, is.place_is, is.inside, size))
 
 -- and those whose numbers are not issued
-pub new_places : (numbers : Numbers) (first count : ℕ) (marks : List Bool) → length marks ≡ count → AreMarked numbers first marks → AreNew numbers first count (unmarked marks 0)
-new_places numbers first count marks size marked = record {
+pub new_places : (issues : Issues) (first count : ℕ) (marks : List Bool) → length marks ≡ count → AreMarked issues first marks → AreNew issues first count (unmarked marks 0)
+new_places issues first count marks size marked = record {
   members = λ place. (
     λ is_in.
         let is = clear_of marks 0 place is_in in

@@ -1,5 +1,5 @@
 -- Members of lists.
-use Rattle.std.proofs.Common.{◌≡◌, ◌<◌, ◌⊎◌, inl, inr, ℕ, zero, suc, List, [], ◌∷◌, ◌++◌, Contains, map, length, get_or, refl, ap, arith}
+use Rattle.std.proofs.Common.{◌≡◌, ◌<◌, ◌⊎◌, inl, inr, ℕ, zero, suc, List, [], ◌∷◌, ◌++◌, Contains, length, get_or, refl, arith}
 use Rattle.std.specs.List.{All, AllPairs}
 use Rattle.std.proofs.lemmas.List.Elements.{All-append}
 use Rattle.std.proofs.lemmas.List.Kept.{AllPairs-cons}
@@ -22,14 +22,6 @@ member_at (thing ∷ things) (suc k) d within = later_in thing things (get_or th
 pub member_cases : {A : Type 0} (first : A) (things : List A) (thing : A) → Contains (first ∷ things) thing → (first ≡ thing) ⊎ Contains things thing
 member_cases first things thing (zero, within, is) = inl is
 member_cases first things thing (suc k, within, is) = inr (k, omega (arith, within), is)
-
--- what a member is mapped to is a member
-pub member_map : {A B : Type 0} (f : A → B) (things : List A) (thing : A) → Contains things thing → Contains (map f things) (f thing)
-member_map f [] thing is_in = absurd (none_in thing is_in)
-member_map f (first ∷ things) thing is_in = elim (member_cases first things thing is_in) [
-  | inl is ↦ (0, omega arith, ap f is)
-  | inr later ↦ later_in (f first) (map f things) (f thing) (member_map f things thing later)
-]
 
 -- what all members meet
 pub all_members : {A : Type 0} (P : A → Type 0) (things : List A) → ((thing : A) → Contains things thing → P thing) → All P things

@@ -1,7 +1,6 @@
 -- Initial key serial numbers in a row (this project's own, over the key serial numbers of
 -- ANSI X9.24-1:2009 annex A).
 use Rattle.std.specs.Prelude.{◌≡◌, ◌<◌, ◌≤◌, ◌+◌, ◌-◌, ◌*◌, ◌/◌, ◌^◌, ℕ}
-use Rattle.duk_tree.specs.Serial.{Serial}
 
 -- the number at a place after the first, which is counted from 0: each lies 2^21, as many as there
 -- are counters, above the one before it
@@ -12,10 +11,6 @@ iksn_at first place = first + place * 2 ^ 21
 -- host chooses the base derivation key
 abbrev pub key_set : ℕ → ℕ
 key_set iksn = iksn / 2 ^ 40
-
--- an initial key serial number as a ledger keeps it: the key serial number with counter zero
-abbrev pub with_counter_zero : ℕ → Serial
-with_counter_zero iksn = record { iksn = iksn; counter = 0 }
 
 -- for how many terminals keys may be issued at once: as many as a key set has
 abbrev pub most_terminals : ℕ

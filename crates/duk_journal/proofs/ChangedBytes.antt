@@ -1,15 +1,14 @@
--- Contents of which one byte was changed are those of no entry.
+-- Contents of which one byte was changed have the wrong check sum.
 use Rattle.std.proofs.Common.{◌≡◌, inl, inr, ℕ, zero, suc, ◌/◌, ◌%◌, ◌<◌, ◌^◌, List, [], ◌∷◌, ◌++◌, length, take, drop, get_or, refl, sym, ◌∙◌, ap, subst, arith}
 use Rattle.std.proofs.lemmas.Bool.{cases_lt}
 use Rattle.std.proofs.lemmas.List.Elements.{All-append, All-cons, All-nil}
 use Rattle.std.proofs.lemmas.List.{append_assoc, take-append-drop, take-append-le}
 use Rattle.std.specs.Int.{byte_at}
 use Rattle.std.specs.List.{All}
-use Rattle.byteorder.specs.Endian.{big_bytes, big_number}
-use Rattle.byteorder.specs.Numbers.{big_number-reads_back}
+use Rattle.byteorder.specs.Endian.{big_bytes, little_number}
+use Rattle.byteorder.specs.Numbers.{little_number-reads_back}
 use Rattle.duk_crc.specs.Crc32.{crc32}
-use Rattle.duk_journal.specs.CheckedFormat.{SaysChecked, check_bytes, check_of, said_of}
-use Rattle.duk_journal.specs.declared.entry.Entry.{Entry}
+use Rattle.duk_journal.specs.CheckedFormat.{IsChecked, check_bytes, check_of, said_of}
 
 abbrev AreBytes : List ℕ → Type 0
 AreBytes bytes = All (λ (byte : ℕ). byte < 2 ^ 8) bytes
@@ -56,9 +55,9 @@ same_check : (identity place : ℕ) (one other : List ℕ) → check_bytes ident
 same_check identity place one other same =
     let first : check_of identity place one < 2 ^ 32 = omega arith in
     let second : check_of identity place other < 2 ^ 32 = omega arith in
-    sym (big_number-reads_back 4 (check_of identity place one) (0 ∷ []) (omega (arith, first)))
-    ∙ ap (big_number 4) same
-    ∙ big_number-reads_back 4 (check_of identity place other) (0 ∷ []) (omega (arith, second))
+    sym (little_number-reads_back 4 (check_of identity place one) (0 ∷ []) (omega (arith, first)))
+    ∙ ap (little_number 4) same
+    ∙ little_number-reads_back 4 (check_of identity place other) (0 ∷ []) (omega (arith, second))
 
 module _ (one_byte : (before after : List ℕ) (one other : ℕ) → AreBytes (before ++ one ∷ after) → other < 2 ^ 8 → crc32 (before ++ one ∷ after) ≡ crc32 (before ++ other ∷ after) → one ≡ other) where
   -- a change of what contents say changes the check sum
@@ -73,15 +72,14 @@ module _ (one_byte : (before after : List ℕ) (one other : ℕ) → AreBytes (b
       All-append (λ (b : ℕ). b < 2 ^ 8) own (at ++ (before ++ byte ∷ rest)) (number_bytes 8 identity) (All-append (λ (b : ℕ). b < 2 ^ 8) at (before ++ byte ∷ rest) (number_bytes 8 place) are) in
       one_byte all rest byte changed (subst AreBytes (sym (joined byte)) bytes) less (ap crc32 (joined byte) ∙ same ∙ sym (ap crc32 (joined changed)))
 
-  pub changed_byte : (identity place followers others : ℕ) (one other : Entry) (before after : List ℕ) (byte changed : ℕ) → AreBytes (before ++ byte ∷ after) → changed < 2 ^ 8
-      → SaysChecked identity place followers one (before ++ byte ∷ after) → SaysChecked identity place others other (before ++ changed ∷ after) → byte ≡ changed
-  changed_byte identity place followers others one other before after byte changed are less first second = elim (cases_lt (length before) 26) [
+  pub one_checked : (identity place : ℕ) (before after : List ℕ) (byte changed : ℕ) → AreBytes (before ++ byte ∷ after) → changed < 2 ^ 8 → IsChecked identity place (before ++ byte ∷ after) → IsChecked identity place (before ++ changed ∷ after) → byte ≡ changed
+  one_checked identity place before after byte changed are less first second = elim (cases_lt (length before) 26) [
     | inl in_front ↦
         let rest : List ℕ = front_rest 26 before after in
         let x = taken 26 before after byte in_front in
         let y = taken 26 before after changed in_front in
         let behind : check_bytes identity place (said_of (before ++ byte ∷ after)) ≡ check_bytes identity place (said_of (before ++ changed ∷ after)) =
-        sym first.check ∙ dropped 26 before after byte changed in_front ∙ second.check in
+        sym first ∙ dropped 26 before after byte changed in_front ∙ second in
         let checks = same_check identity place (said_of (before ++ byte ∷ after)) (said_of (before ++ changed ∷ after)) behind in
         same_said identity place before rest byte changed (subst AreBytes x (bytes_in_front 26 (before ++ byte ∷ after) are)) less
         (sym (ap (check_of identity place) x) ∙ checks ∙ ap (check_of identity place) y)
@@ -89,7 +87,7 @@ module _ (one_byte : (before after : List ℕ) (one other : ℕ) → AreBytes (b
         let x = take-append-le 26 before (byte ∷ after) past in
         let y = take-append-le 26 before (changed ∷ after) past in
         let said : said_of (before ++ byte ∷ after) ≡ said_of (before ++ changed ∷ after) = x ∙ sym y in
-        let behind : drop 26 (before ++ byte ∷ after) ≡ drop 26 (before ++ changed ∷ after) = first.check ∙ ap (check_bytes identity place) said ∙ sym second.check in
+        let behind : drop 26 (before ++ byte ∷ after) ≡ drop 26 (before ++ changed ∷ after) = first ∙ ap (check_bytes identity place) said ∙ sym second in
         same_middle before after byte changed
         (sym (take-append-drop 26 (before ++ byte ∷ after))
         ∙ ap (λ (l : List ℕ). l ++ drop 26 (before ++ byte ∷ after)) said

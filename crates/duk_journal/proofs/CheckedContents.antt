@@ -1,8 +1,8 @@
 -- Contents and headers with their check sums.
 use Rattle.std.proofs.Common.{◌≡◌, ℕ, ◌+◌, ◌-◌, ◌<◌, ◌≤◌, ◌^◌, List, [], ◌∷◌, ◌++◌, length, length-append, length-drop, take, drop, replicate, refl, sym, ◌∙◌, ap, arith}
 use Rattle.std.proofs.lemmas.List.{append_assoc, drop-drop, drop_at, length-take-le, take-append-drop, take_at}
-use Rattle.byteorder.specs.Endian.{big_bytes, big_number}
-use Rattle.byteorder.specs.Numbers.{big_number-reads_back, length-bytes_high_first}
+use Rattle.byteorder.specs.Endian.{big_bytes, big_number, little_bytes}
+use Rattle.byteorder.specs.Numbers.{big_number-reads_back, length-bytes_high_first, length-bytes_low_first}
 use Rattle.duk_crc.specs.Crc32.{crc32}
 use Rattle.duk_tree.specs.Serial.{Serial, serial_bytes}
 use Rattle.duk_store.specs.DiskRecords.{IsHeaderOf}
@@ -18,20 +18,20 @@ use Rattle.duk_journal.proofs.FieldPlaces.{contents_length}
 pub identity_back : (kind identity : ℕ) → identity < 2 ^ 64 → identity_of (header_of kind identity) ≡ identity
 unfolding said_in_front
 identity_back kind identity fits =
-    let check : List ℕ = big_bytes 4 (crc32 (said_in_front kind identity)) in
+    let check : List ℕ = little_bytes 4 (crc32 (said_in_front kind identity)) in
     ap (big_number 8) (append_assoc (big_bytes 8 identity) (0 ∷ 0 ∷ 0 ∷ 0 ∷ []) check)
     ∙ big_number-reads_back 8 identity ((0 ∷ 0 ∷ 0 ∷ 0 ∷ []) ++ check) (omega (arith, fits))
 
-header_length : (kind identity : ℕ) → length (header_of kind identity) ≡ 32
+pub header_length : (kind identity : ℕ) → length (header_of kind identity) ≡ 32
 unfolding said_in_front
 header_length kind identity =
     let check : ℕ = crc32 (said_in_front kind identity) in
     omega (
       arith,
-      length-append (said_in_front kind identity) (big_bytes 4 check),
+      length-append (said_in_front kind identity) (little_bytes 4 check),
       length-append (big_bytes 8 identity) (0 ∷ 0 ∷ 0 ∷ 0 ∷ []),
       length-bytes_high_first 8 identity,
-      length-bytes_high_first 4 check,
+      length-bytes_low_first 0 4 check,
     )
 
 pub journal_header_is : (identity : ℕ) → identity < 2 ^ 64 → IsHeaderOf checked_format (header_of journal_kind identity)
@@ -48,7 +48,7 @@ said_length contents whole = length-take-le 26 contents (omega (arith, whole))
 pub check_length : (identity place : ℕ) (said : List ℕ) → length (check_bytes identity place said) ≡ 5
 check_length identity place said =
     let check : ℕ = check_of identity place said in
-    omega (arith, length-append (big_bytes 4 check) (0 ∷ []), length-bytes_high_first 4 check)
+    omega (arith, length-append (little_bytes 4 check) (0 ∷ []), length-bytes_low_first 0 4 check)
 
 -- the five zeros at the end of contents of version 1
 zeros_behind : (followers : ℕ) (entry : Entry) → ((serial : Serial) → length (serial_bytes serial) ≡ 10) → length entry.mac ≡ 8 → drop 26 (contents_of followers entry) ≡ replicate 5 0

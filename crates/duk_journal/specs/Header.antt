@@ -1,6 +1,6 @@
 -- The first record of a file: this project's own. It says what the file is, and gives it an identity.
 use Rattle.std.specs.Prelude.{◌≡◌, ◌<◌, ◌^◌, ◌++◌, ◌∷◌, ℕ, List, [], drop}
-use Rattle.byteorder.specs.Endian.{big_bytes, big_number}
+use Rattle.byteorder.specs.Endian.{big_bytes, big_number, little_bytes}
 use Rattle.duk_crc.specs.Crc32.{crc32}
 
 -- the kind of a journal
@@ -19,7 +19,7 @@ said_in_front kind identity =
 -- the header of a file of this kind, with this identity
 abbrev pub header_of : ℕ → ℕ → List ℕ
 header_of kind identity =
-    said_in_front kind identity ++ big_bytes 4 (crc32 (said_in_front kind identity))
+    said_in_front kind identity ++ little_bytes 4 (crc32 (said_in_front kind identity))
 
 -- the bytes of a record are a header of this kind
 abbrev pub IsHeader : ℕ → List ℕ → Type 0

@@ -1,7 +1,7 @@
 //! The format of a journal's disk, version 2: a header, and records of 32 bytes with check sums.
 
-ghost use Rattle.std.specs.Prelude.{◌≡◌, ◌↔◌, ◌++◌, IsTrue, length, drop};
-ghost use Rattle.duk_journal.specs.CheckedFormat.{check_bytes, check_of, checked_format, said_of, unchecked};
+ghost use Rattle.std.specs.Prelude.{◌≡◌, ◌↔◌, ◌++◌, IsTrue, length};
+ghost use Rattle.duk_journal.specs.CheckedFormat.{IsChecked, check_bytes, check_of, checked_format, said_of, unchecked};
 
 use crate::entry::Entry;
 use crate::header::{identity_in, is_journal_header};
@@ -83,15 +83,14 @@ fn without_check(contents: &[u8]) -> [u8; CONTENTS_LENGTH]
 /// Whether the check sum of contents is that of the record at a place, on the disk of an identity.
 fn is_checked(identity: u64, place: u64, contents: &[u8]) -> bool
     requires { length contents.now ≡ 31 }
-    ensures { IsTrue result
-        ↔ (drop 26 contents.now ≡ check_bytes identity place (said_of contents.now)) }
+    ensures { IsTrue result ↔ IsChecked identity place contents.now }
 {
     let checked = with_check(identity, place, contents);
     contents == checked.as_slice()
 }
 
 /// Contents that say the same, with the check sum of the record at a place.
-fn with_check(identity: u64, place: u64, contents: &[u8]) -> ContentsBytes
+pub fn with_check(identity: u64, place: u64, contents: &[u8]) -> ContentsBytes
     requires { length contents.now ≡ 31 }
     ensures bytes { result.items
         ≡ said_of contents.now ++ check_bytes identity place (said_of contents.now) }
@@ -110,7 +109,7 @@ fn check_behind(identity: u64, place: u64, said: &[u8]) -> [u8; 5]
     ensures { result ≡ check_bytes identity place said.now }
 {
     let mut bytes = [0; 5];
-    bytes[..4].copy_from_slice(&check_sum(identity, place, said).to_be_bytes());
+    bytes[..4].copy_from_slice(&check_sum(identity, place, said).to_le_bytes());
     bytes
 }
 

@@ -9,7 +9,7 @@ use byteorder::{BigEndian, ByteOrder};
 use duk_crc::crc32;
 
 /// The kind of a journal.
-const JOURNAL_KIND: u8 = 1;
+pub const JOURNAL_KIND: u8 = 1;
 
 /// The first bytes of a header. They are no text, and a copy that converts line endings changes
 /// them. A reader of version 1 takes them for an open record of no kind, and refuses the disk.
@@ -30,7 +30,7 @@ pub fn journal_header(identity: u64) -> HeaderBytes
     ensures bytes { result.items ≡ header_of journal_kind identity }
     ensures length { length result.items ≡ 32 }
 {
-    header(JOURNAL_KIND, identity)
+    file_header(JOURNAL_KIND, identity)
 }
 
 /// Whether the bytes of a record are the header of a journal.
@@ -38,7 +38,15 @@ pub fn is_journal_header(record: &[u8]) -> bool
     requires { length «record».now ≡ 32 }
     ensures { IsTrue result ↔ IsHeader journal_kind «record».now }
 {
-    let written = journal_header(identity_in(record));
+    is_file_header(JOURNAL_KIND, record)
+}
+
+/// Whether the bytes of a record are the header of a file of this kind.
+pub fn is_file_header(kind: u8, record: &[u8]) -> bool
+    requires { length «record».now ≡ 32 }
+    ensures { IsTrue result ↔ IsHeader kind «record».now }
+{
+    let written = file_header(kind, identity_in(record));
     record == written.as_slice()
 }
 
@@ -53,7 +61,7 @@ pub fn identity_in(header: &[u8]) -> u64
 
 /// The header of a file of this kind, with this identity.
 #[tactic(auto, unfolding(crate::specs::Header::said_in_front))]
-fn header(kind: u8, identity: u64) -> HeaderBytes
+pub fn file_header(kind: u8, identity: u64) -> HeaderBytes
     ensures bytes { result.items ≡ header_of kind identity }
     ensures length { length result.items ≡ 32 }
 {
@@ -64,6 +72,6 @@ fn header(kind: u8, identity: u64) -> HeaderBytes
     append(&mut bytes, &identity.to_be_bytes());
     append(&mut bytes, &[0; 4]);
     let check = crc32(bytes.as_slice());
-    append(&mut bytes, &check.to_be_bytes());
+    append(&mut bytes, &check.to_le_bytes());
     bytes
 }

@@ -1,15 +1,15 @@
 //! Laws of journals, each the contract of a function that does nothing.
 
-ghost use Rattle.std.specs.Prelude.{◌≡◌, ◌⊎◌, ◌↔◌, ◌<◌, ◌≤◌, ◌*◌, ◌^◌, ◌++◌, ◌∷◌, ℕ, List, [], All, Contains, IsTrue, drop};
+ghost use Rattle.std.specs.Prelude.{◌≡◌, ◌⊎◌, ◌↔◌, ◌<◌, ◌≤◌, ◌*◌, ◌^◌, ◌++◌, ◌∷◌, ℕ, List, [], All, Contains, IsTrue, drop, length};
 ghost use Rattle.duk_store.specs.MemoryDisk.{memory_disk_meaning, new_disk_with};
 ghost use Rattle.duk_store.specs.StoreState.{IsNew};
 ghost use Rattle.duk_tree.specs.Serial.{Serial};
 ghost use Rattle.duk_journal.specs.DiskJournal.{disk_journal_meaning, new_disk_journal};
 ghost use Rattle.duk_journal.specs.CheckSum.{check_sum_of};
-ghost use Rattle.duk_journal.specs.CheckedFormat.{SaysChecked};
+ghost use Rattle.duk_journal.specs.CheckedFormat.{IsChecked, SaysChecked};
 ghost use Rattle.duk_journal.specs.Entry.{AreFields, kind_of};
 ghost use Rattle.duk_journal.specs.Groups.{Entries, HasContents, KeepsChecked, KeepsEntries};
-ghost use Rattle.duk_journal.specs.Header.{header_of, journal_kind};
+ghost use Rattle.duk_journal.specs.Header.{header_of, identity_of, journal_kind};
 ghost use Rattle.duk_journal.specs.Standing.{AddsAmount, StandsWith, is_reversed, reversed_numbers, standing_amount};
 ghost use Rattle.duk_journal.specs.declared.entry.Entry.{Entry};
 
@@ -41,6 +41,23 @@ pub fn one_contents()
     duk_tree::laws::serials();
 }
 
+/// Of contents that differ in one byte one at most have the check sum of a record.
+pub fn one_checked()
+    ensures { (identity place : ℕ) (before after : List ℕ) (byte changed : ℕ)
+        → All (λ byte. byte < 2 ^ 8) (before ++ byte ∷ after) → changed < 2 ^ 8
+        → IsChecked identity place (before ++ byte ∷ after)
+        → IsChecked identity place (before ++ changed ∷ after) → byte ≡ changed }
+{
+    duk_crc::laws::one_byte();
+}
+
+/// A header has the bytes of a record, and gives its identity.
+pub fn headers()
+    ensures length { (kind identity : ℕ) → length (header_of kind identity) ≡ 32 }
+    ensures identity { (kind identity : ℕ) → identity < 2 ^ 64
+        → identity_of (header_of kind identity) ≡ identity }
+{}
+
 /// A record with one changed byte behind its gate has no contents, so that such a change is always
 /// found as damage. Of other changes one in 2^32 passes.
 pub fn changed_byte()
@@ -50,7 +67,7 @@ pub fn changed_byte()
         → SaysChecked identity place others other (before ++ changed ∷ after)
         → byte ≡ changed }
 {
-    duk_crc::laws::one_byte();
+    one_checked();
 }
 
 /// What stands behind the kind of a record tells the kind: no code is written as a state is. So where

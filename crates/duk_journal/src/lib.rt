@@ -19,10 +19,15 @@ mod memory_journal;
 mod record_format;
 
 pub use check_sum::CheckSum;
-pub use checked_format::CheckedFormat;
+pub use checked_format::{CheckedFormat, with_check};
 pub use disk_journal::DiskJournal;
 pub use entry::{Decided, Entry};
-pub use header::{HeaderBytes, identity_in, is_journal_header, journal_header};
+pub use header::{
+    HeaderBytes, JOURNAL_KIND, file_header, identity_in, is_file_header, is_journal_header,
+    journal_header,
+};
 pub use journal::Journal;
 pub use memory_journal::MemJournal;
-pub use record_format::{Contents, EntryFormat, OPEN, RECORD_LENGTH, contents_of_record};
+pub use record_format::{
+    Contents, ContentsBytes, EntryFormat, OPEN, RECORD_LENGTH, append, contents_of_record,
+};

@@ -3,18 +3,14 @@ use Rattle.std.proofs.Common.{◌≡◌, ◌∙◌, ◌⊎◌, inl, inr, ◌+◌
 use Rattle.std.proofs.lemmas.Bool.{cases_lt}
 use Rattle.std.proofs.lemmas.List.{get_or-append_right, get_or-drop, get_or-take, get_or_append_left, length-append, length-replicate}
 use Rattle.std.proofs.Math.Seq.{take-append_seam}
-use Rattle.duk_journal_copy.specs.Blank.{IsJournalBegun}
+use Rattle.duk_journal_copy.specs.Blank.{IsFileBegun, IsJournalBegun, begun_bytes}
 use Rattle.duk_journal_copy.specs.inner.Head.{HasRestOf}
 use Rattle.duk_journal.specs.Groups.{KeepsChecked}
 use Rattle.duk_journal.specs.Header.{header_of, journal_kind}
-use Rattle.duk_journal.specs.RecordFormat.{gate_of, record_at}
-use Rattle.duk_store.specs.Disk.{DiskState, LeavesReads, PreservesDisk, written}
+use Rattle.duk_journal.specs.RecordFormat.{IsOpen, gate_of, record_at}
+use Rattle.duk_store.specs.Disk.{DiskState, written}
 use Rattle.duk_journal_copy.proofs.HeaderBytes.{header_length}
 use Rattle.duk_journal_copy.proofs.WrittenLists.{at_written, before_written, length_to_end, length_written, zero_of_zeros, zero_written}
-
--- the bytes of a new journal
-abbrev pub begun_bytes : ℕ → ℕ → List ℕ
-begun_bytes identity size = header_of journal_kind identity ++ replicate (size - 32) 0
 
 -- the gate of a record
 pub gate_at : (place : ℕ) (x : List ℕ) → gate_of (record_at place x) ≡ get_or x (32 * place) 0
@@ -22,15 +18,15 @@ gate_at place x =
     get_or-take 32 (drop (32 * place) x) 0 0 (omega arith) ∙ get_or-drop (32 * place) x 0 0
     ∙ ap (λ (i : ℕ). get_or x i 0) (omega arith)
 
-module _ (identity size : ℕ) (room : 32 ≤ size) where
+module _ (kind identity size : ℕ) (room : 32 ≤ size) where
   abbrev header : List ℕ
-  header = header_of journal_kind identity
+  header = header_of kind identity
 
   abbrev whole : List ℕ
-  whole = begun_bytes identity size
+  whole = begun_bytes kind identity size
 
   long : length header ≡ 32
-  long = header_length journal_kind identity
+  long = header_length kind identity
 
   whole_length : length whole ≡ size
   whole_length = length-append header (replicate (size - 32) 0) ∙ omega (arith, long, room, length-replicate {A = ℕ} (size - 32) 0)
@@ -72,21 +68,26 @@ module _ (identity size : ℕ) (room : 32 ≤ size) where
       ]
 
   -- it keeps nothing
-  header_first : record_at 0 whole ≡ header
+  pub header_first : record_at 0 whole ≡ header
   header_first = ap (λ (m : ℕ). take m whole) (sym long) ∙ take-append_seam header (replicate (size - 32) 0)
 
-  pub begun_keeps : identity < 2 ^ 64 → KeepsChecked whole []
-  begun_keeps fits = record {
-    header = λ has. (identity, fits, header_first);
-    listed = λ later past open_now.
-        let zero_gate : gate_of (record_at later whole) ≡ 0 = gate_at later whole ∙ behind (32 * later) (omega (arith, past)) in
-        omega (arith, zero_gate, open_now);
-  }
+  pub begun_closed : (later : ℕ) → 1 ≤ later → ¬ IsOpen (record_at later whole)
+  begun_closed later past open_now =
+      let zero_gate : gate_of (record_at later whole) ≡ 0 = gate_at later whole ∙ behind (32 * later) (omega (arith, past)) in
+      omega (arith, zero_gate, open_now)
 
--- a disk that reads so, and leaves what it reads
-pub begun_of : (identity : ℕ) (old new : DiskState) → identity < 2 ^ 64 → 32 ≤ old.size → PreservesDisk old new → new.failures ≡ old.failures
-    → (old.honest → new.reads ≡ begun_bytes identity old.size) → (old.honest → LeavesReads new) → IsJournalBegun identity old new
-begun_of identity old new fits room nature no_failure reads leaves =
+pub begun_keeps : (identity size : ℕ) → 32 ≤ size → identity < 2 ^ 64 → KeepsChecked (begun_bytes journal_kind identity size) []
+begun_keeps identity size room fits = record {
+  header = λ has. (identity, fits, header_first journal_kind identity size room);
+  listed = λ later past. begun_closed journal_kind identity size room later (omega (arith, past));
+}
+
+-- a disk that is begun so is that of a new journal
+pub journal_begun : (identity : ℕ) (old new : DiskState) → identity < 2 ^ 64 → 32 ≤ old.size → IsFileBegun journal_kind identity old new → IsJournalBegun identity old new
+journal_begun identity old new fits room begun =
+    let nature = begun.nature in
+    let reads = begun.reads in
+    let leaves = begun.leaves in
     let header : List ℕ = header_of journal_kind identity in
     let long : length header ≡ 32 = header_length journal_kind identity in
     let sizes : new.size - length header ≡ old.size - 32 = omega (arith, long, nature.size) in
@@ -94,7 +95,7 @@ begun_of identity old new fits room nature no_failure reads leaves =
     (λ h. reads h ∙ ap (λ (n : ℕ). header ++ replicate n 0) (sym sizes)) in
     record {
       nature = nature;
-      no_failure = no_failure;
+      no_failure = begun.no_failure;
       fresh = λ h size. record {
         identity_fits = fits;
         fresh = record {

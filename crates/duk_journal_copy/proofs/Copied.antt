@@ -1,10 +1,9 @@
 -- A disk that is written with what a journal keeps.
 use Rattle.std.proofs.Common.{◌≡◌, ◌∙◌, ◌+◌, ◌*◌, ◌-◌, ◌<◌, ◌≤◌, ◌^◌, ◌++◌, ℕ, zero, suc, List, [], ◌∷◌, None, ap, arith, drop, length, refl, replicate, subst, sym}
-use Rattle.std.proofs.lemmas.List.{length-append}
 use Rattle.duk_journal.specs.CheckedFormat.{checked_format}
 use Rattle.duk_journal.specs.DiskJournal.{disk_journal_state}
 use Rattle.duk_journal.specs.Groups.{Entries, KeepsChecked}
-use Rattle.duk_journal.specs.Header.{header_of, journal_kind}
+use Rattle.duk_journal.specs.Header.{journal_kind}
 use Rattle.duk_journal.specs.RecordFormat.{entry_format, record_at}
 use Rattle.duk_journal.specs.declared.entry.Entry.{Entry}
 use Rattle.duk_journal_copy.specs.Copy.{CopyFailed, IsCopied, IsRecordCopied}
@@ -18,14 +17,14 @@ use Rattle.duk_journal_copy.specs.declared.version.Version.TheVariants.{One, Two
 use Rattle.duk_journal_copy.specs.inner.Blank.{LeavesOutside}
 use Rattle.duk_journal_copy.specs.inner.Convert.{IsConverted}
 use Rattle.duk_journal_copy.specs.inner.Copy.{AreConvertedFrom, IsIdentityRead, IsRestCopied, RecordsUncopied, new_spot, old_spot}
-use Rattle.duk_journal_copy.specs.inner.Head.{HasRestOf, IsHeadSettled, LeavesHeadInTurn}
+use Rattle.duk_journal_copy.specs.inner.Head.{IsHeadSettled, LeavesHeadInTurn}
 use Rattle.duk_journal_copy.specs.inner.Rest.{journal_bytes}
 use Rattle.duk_store.specs.Disk.{DiskState, LeavesReads, PreservesBytes, PreservesDisk}
 use Rattle.duk_store.specs.Format.{FormatMeaning, IsFormat}
 use Rattle.duk_store.specs.Records as records
 use Rattle.duk_store.specs.StoreState.{FindsOnly}
 use Rattle.duk_journal_copy.proofs.CopiedRecords.{spot}
-use Rattle.duk_journal_copy.proofs.HeaderBytes.{gate_in, mark_in, third_in}
+use Rattle.duk_journal_copy.proofs.HeaderBytes.{gate_in, length_in, mark_in, third_in}
 use Rattle.duk_journal_copy.proofs.InPart.{in_part_settled}
 use Rattle.duk_journal_copy.proofs.KeptCopy.{kept_copy}
 use Rattle.duk_journal_copy.proofs.WholeBytes.{header_first, in_front, record_in, zeros_behind}
@@ -178,4 +177,5 @@ module _ (one_list : (bytes : List ℕ) (one two : Entries) → KeepsChecked byt
       (in_front identity (tail k) 0 (omega arith) ∙ gate_in journal_kind identity)
       (in_front identity (tail k) 1 (omega arith) ∙ mark_in journal_kind identity)
       (in_front identity (tail k) 2 (omega arith) ∙ third_in journal_kind identity)
+      (in_front identity (tail k) 15 (omega arith) ∙ length_in journal_kind identity)
       (λ again. (rest.rest k).3) in_turn k one unfinished

@@ -6,6 +6,9 @@ mod Fronts
 mod HeaderBytes
 mod InPart
 mod KeptCopy
+mod LedgerBytes
+mod LedgerCopied
+mod LedgerRecords
 mod RecordPlaces
 mod Results
 mod WholeBytes

@@ -1,6 +1,6 @@
 -- What calls in turn do to a disk of which a range is written.
-use Rattle.std.proofs.Common.{◌≡◌, ◌∙◌, ◌+◌, ◌-◌, ◌≤◌, ℕ, arith, refl, sym}
-use Rattle.duk_journal_copy.specs.inner.Blank.{LeavesOutside}
+use Rattle.std.proofs.Common.{◌≡◌, ◌∙◌, ◌⊎◌, ◌+◌, ◌-◌, ◌<◌, ◌≤◌, ℕ, arith, refl, sym}
+use Rattle.duk_journal_copy.specs.inner.Blank.{LeavesByte, LeavesOutside}
 use Rattle.duk_journal_copy.specs.inner.Copy.{StaysRead}
 use Rattle.duk_store.specs.Disk.{DiffersWithin, DiskState, HasFailed, LeavesChanged, LeavesWithin, PreservesBytes, PreservesDisk}
 use Rattle.duk_store.specs.declared.fault.StoreFault.{StoreFault}
@@ -69,3 +69,19 @@ outside_wider from to at some old new low high changed = λ h bytes left.
 -- a sync adds nothing
 pub outside_synced : (from to : ℕ) (old mid new : DiskState) → PreservesDisk old mid → LeavesOutside from to old mid → LeavesWithin mid new → LeavesOutside from to old new
 outside_synced from to old mid new nature first within = λ h bytes left. first h bytes (within (nature.honest.0 h) bytes left)
+
+-- ---- a byte that stays
+
+pub byte_outside : (place at count : ℕ) (old new : DiskState) → (place < at) ⊎ (at + count ≤ place) → LeavesChanged (DiffersWithin at count) old new → LeavesByte place old new
+byte_outside place at count old new out changed = λ h bytes left.
+    let one = changed h bytes left in
+    (one.0, one.1, one.2.outside place out)
+
+pub byte_within : (place : ℕ) (old new : DiskState) → LeavesWithin old new → LeavesByte place old new
+byte_within place old new within = λ h bytes left. (bytes, within h bytes left, refl)
+
+pub byte_then : (place : ℕ) (old mid new : DiskState) → PreservesDisk old mid → LeavesByte place old mid → LeavesByte place mid new → LeavesByte place old new
+byte_then place old mid new nature first second = λ h bytes left.
+    let one = second (nature.honest.0 h) bytes left in
+    let two = first h one.0 one.1 in
+    (two.0, two.1, one.2 ∙ two.2)

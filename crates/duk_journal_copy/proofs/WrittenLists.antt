@@ -83,6 +83,77 @@ before_written l xs at k inside before = grind (arith, places)
 behind_written : (l xs : List ℕ) (at k : ℕ) → at + length xs ≤ length l → at + length xs ≤ k → get_or (written l at xs) k 0 ≡ get_or l k 0
 behind_written l xs at k inside behind = grind (arith, places)
 
+-- a header is written but for its first two bytes, and for one that is right
+pub header_written : (l mid header : List ℕ) → 32 ≤ length l → length header ≡ 32 → DiffersWithin 15 1 l mid → get_or mid 15 0 ≡ get_or header 15 0
+    → written (written mid 2 (take 13 (drop 2 header))) 16 (drop 16 header) ≡ written l 2 (drop 2 header)
+header_written l mid header room long differs right =
+    same_number_lists (written (written mid 2 low) 16 high) (written l 2 all)
+    (length_written (written mid 2 low) high 16 (omega (arith, low_written, high_long, room)) ∙ low_written ∙ sym (length_written l all 2 (omega (arith, all_long, room))))
+    (λ k less. here k)
+  where
+    low : List ℕ
+    low = take 13 (drop 2 header)
+
+    high : List ℕ
+    high = drop 16 header
+
+    all : List ℕ
+    all = drop 2 header
+
+    all_long : length all ≡ 30
+    all_long = length-drop 2 header ∙ omega (arith, long)
+
+    low_long : length low ≡ 13
+    low_long = length-take-le 13 all (omega (arith, all_long))
+
+    high_long : length high ≡ 16
+    high_long = length-drop 16 header ∙ omega (arith, long)
+
+    mid_long : length mid ≡ length l
+    mid_long = differs.same_length
+
+    low_written : length (written mid 2 low) ≡ length l
+    low_written = length_written mid low 2 (omega (arith, low_long, mid_long, room)) ∙ mid_long
+
+    low_at : (k : ℕ) → k < 16 → get_or (written mid 2 low) k 0 ≡ get_or (written l 2 all) k 0
+    low_at k less = elim (cases_lt k 2) [
+      | inl first ↦
+          before_written mid low 2 k (omega (arith, low_long, mid_long, room)) first
+          ∙ differs.outside k (inl (omega (arith, first)))
+          ∙ sym (before_written l all 2 k (omega (arith, all_long, room)) first)
+      | inr behind ↦ elim (cases_lt k 15) [
+        | inl before ↦
+            at_written mid low 2 k (omega (arith, low_long, mid_long, room)) behind (omega (arith, low_long, before))
+            ∙ get_or-take 13 all (k - 2) 0 (omega (arith, behind, before))
+            ∙ sym (at_written l all 2 k (omega (arith, all_long, room)) behind (omega (arith, all_long, before)))
+        | inr last ↦
+            behind_written mid low 2 k (omega (arith, low_long, mid_long, room)) (omega (arith, low_long, last))
+            ∙ ap (λ (n : ℕ). get_or mid n 0) (omega (arith, less, last))
+            ∙ right
+            ∙ ap (λ (n : ℕ). get_or header n 0) (omega (arith, less, last))
+            ∙ sym (get_or-drop 2 header (k - 2) 0)
+            ∙ sym (at_written l all 2 k (omega (arith, all_long, room)) behind (omega (arith, all_long, less)))
+      ]
+    ]
+
+    here : (k : ℕ) → get_or (written (written mid 2 low) 16 high) k 0 ≡ get_or (written l 2 all) k 0
+    here k = elim (cases_lt k 16) [
+      | inl less ↦ before_written (written mid 2 low) high 16 k (omega (arith, low_written, high_long, room)) less ∙ low_at k less
+      | inr past ↦ elim (cases_lt k 32) [
+        | inl before ↦
+            at_written (written mid 2 low) high 16 k (omega (arith, low_written, high_long, room)) past (omega (arith, high_long, before))
+            ∙ get_or-drop 16 header (k - 16) 0
+            ∙ ap (λ (n : ℕ). get_or header n 0) (omega (arith, past))
+            ∙ sym (get_or-drop 2 header (k - 2) 0)
+            ∙ sym (at_written l all 2 k (omega (arith, all_long, room)) (omega (arith, past)) (omega (arith, all_long, before)))
+        | inr behind ↦
+            behind_written (written mid 2 low) high 16 k (omega (arith, low_written, high_long, room)) (omega (arith, high_long, behind))
+            ∙ behind_written mid low 2 k (omega (arith, low_long, mid_long, room)) (omega (arith, low_long, behind))
+            ∙ differs.outside k (inr (omega (arith, behind)))
+            ∙ sym (behind_written l all 2 k (omega (arith, all_long, room)) (omega (arith, all_long, behind)))
+      ]
+    ]
+
 -- zeros to the end
 pub zero_written : (l : List ℕ) (at size k : ℕ) → length l ≡ size → at ≤ size → at ≤ k → get_or (written l at (replicate (size - at) 0)) k 0 ≡ 0
 zero_written l at size k long room behind = elim (cases_lt k size) [

@@ -2,4 +2,5 @@ pub mod Blank
 pub mod Convert
 pub mod Copy
 pub mod Head
+pub mod Ledger
 pub mod Rest

@@ -14,7 +14,7 @@ use crate::blank::write_synced;
 use crate::convert::{Spot, convert_records};
 use crate::head::settle_head;
 use crate::version::Version;
-use duk_journal::RECORD_LENGTH;
+use duk_journal::{JOURNAL_KIND, RECORD_LENGTH};
 use duk_store::{Disk, Format, StoreFault};
 
 /// The records of a piece.
@@ -132,7 +132,7 @@ fn copy_rest<D: Disk, E: Disk>(
         (E.meaning.state_of new.old) (E.meaning.state_of new.new) }
     ensures length { length piece.new ≡ length piece.old }
 {
-    if write_front(new, identity).is_err() {
+    if write_front(new, JOURNAL_KIND, identity).is_err() {
         return Err(CopyFault::New);
     }
     copy_records(old, kept, own, new, identity, piece)?;

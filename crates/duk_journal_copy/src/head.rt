@@ -33,7 +33,7 @@ pub(crate) fn settle_head<D: Disk>(disk: &mut D) -> Result<(), StoreFault>
 
 /// Makes a byte of a disk this one, and syncs it, where it is another. A right one is not written
 /// again, since a stop could leave any byte in its place then.
-fn settle_byte<D: Disk>(disk: &mut D, place: u64, byte: u8) -> Result<(), StoreFault>
+pub(crate) fn settle_byte<D: Disk>(disk: &mut D, place: u64, byte: u8) -> Result<(), StoreFault>
     requires inside { place < (D.meaning.state_of disk.old).size }
     ensures settled { OnOk result (IsByteSettled place byte
         (D.meaning.state_of disk.old) (D.meaning.state_of disk.new)) }

@@ -1,4 +1,5 @@
-//! New journals: one that keeps nothing, and one that keeps what another does, of either version.
+//! New journals: one that keeps nothing, and one that keeps what another does, of either version. And
+//! other new files with a header, that keep nothing.
 //!
 //! Every byte of a new disk is written, but for one of the first two that is right already, and all
 //! are synced. So nothing of what the medium held before is left, and a medium that has a place for
@@ -13,9 +14,11 @@ mod convert;
 mod copy;
 mod head;
 pub mod laws;
+mod ledger;
 mod version;
 
-pub use begin::write_journal;
+pub use begin::{begin_file, write_journal};
 pub use blank::{PIECE_LENGTH, write_blank};
 pub use copy::{CopyFault, Kept, write_copy};
+pub use ledger::{LedgerCopyFault, write_ledger};
 pub use version::Version;

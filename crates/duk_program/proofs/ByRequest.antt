@@ -21,18 +21,20 @@ if_err P Q (Err why) follows is = follows why is
 
 -- a command that is none of those over files is one over its arguments
 pub over_arguments : (command : CommandName) → TellsNothing command → command ≢ name.Run → command ≢ name.Serve → command ≢ name.NewLog
-    → command ≢ name.NewJournal → command ≢ name.GrowJournal → command ≢ name.CopyJournal → command ≢ name.Show → command ≢ name.Lmk → IsOverArguments command
-over_arguments name.Find untold no_run no_serve no_newlog no_newjournal no_growjournal no_copyjournal no_show no_lmk = absurd untold
-over_arguments name.Issue untold no_run no_serve no_newlog no_newjournal no_growjournal no_copyjournal no_show no_lmk = absurd untold
-over_arguments name.Run untold no_run no_serve no_newlog no_newjournal no_growjournal no_copyjournal no_show no_lmk = absurd (no_run refl)
-over_arguments name.Serve untold no_run no_serve no_newlog no_newjournal no_growjournal no_copyjournal no_show no_lmk = absurd (no_serve refl)
-over_arguments name.NewLog untold no_run no_serve no_newlog no_newjournal no_growjournal no_copyjournal no_show no_lmk = absurd (no_newlog refl)
-over_arguments name.NewJournal untold no_run no_serve no_newlog no_newjournal no_growjournal no_copyjournal no_show no_lmk = absurd (no_newjournal refl)
-over_arguments name.GrowJournal untold no_run no_serve no_newlog no_newjournal no_growjournal no_copyjournal no_show no_lmk = absurd (no_growjournal refl)
-over_arguments name.CopyJournal untold no_run no_serve no_newlog no_newjournal no_growjournal no_copyjournal no_show no_lmk = absurd (no_copyjournal refl)
-over_arguments name.Show untold no_run no_serve no_newlog no_newjournal no_growjournal no_copyjournal no_show no_lmk = absurd (no_show refl)
-over_arguments name.Lmk untold no_run no_serve no_newlog no_newjournal no_growjournal no_copyjournal no_show no_lmk = absurd (no_lmk refl)
-over_arguments _ untold no_run no_serve no_newlog no_newjournal no_growjournal no_copyjournal no_show no_lmk = tt
+    → command ≢ name.NewJournal → command ≢ name.NewLedger → command ≢ name.GrowJournal → command ≢ name.CopyJournal → command ≢ name.CopyLedger → command ≢ name.Show → command ≢ name.Lmk → IsOverArguments command
+over_arguments name.Find untold no_run no_serve no_newlog no_newjournal no_newledger no_growjournal no_copyjournal no_copyledger no_show no_lmk = absurd untold
+over_arguments name.Issue untold no_run no_serve no_newlog no_newjournal no_newledger no_growjournal no_copyjournal no_copyledger no_show no_lmk = absurd untold
+over_arguments name.Run untold no_run no_serve no_newlog no_newjournal no_newledger no_growjournal no_copyjournal no_copyledger no_show no_lmk = absurd (no_run refl)
+over_arguments name.Serve untold no_run no_serve no_newlog no_newjournal no_newledger no_growjournal no_copyjournal no_copyledger no_show no_lmk = absurd (no_serve refl)
+over_arguments name.NewLog untold no_run no_serve no_newlog no_newjournal no_newledger no_growjournal no_copyjournal no_copyledger no_show no_lmk = absurd (no_newlog refl)
+over_arguments name.NewJournal untold no_run no_serve no_newlog no_newjournal no_newledger no_growjournal no_copyjournal no_copyledger no_show no_lmk = absurd (no_newjournal refl)
+over_arguments name.NewLedger untold no_run no_serve no_newlog no_newjournal no_newledger no_growjournal no_copyjournal no_copyledger no_show no_lmk = absurd (no_newledger refl)
+over_arguments name.GrowJournal untold no_run no_serve no_newlog no_newjournal no_newledger no_growjournal no_copyjournal no_copyledger no_show no_lmk = absurd (no_growjournal refl)
+over_arguments name.CopyJournal untold no_run no_serve no_newlog no_newjournal no_newledger no_growjournal no_copyjournal no_copyledger no_show no_lmk = absurd (no_copyjournal refl)
+over_arguments name.CopyLedger untold no_run no_serve no_newlog no_newjournal no_newledger no_growjournal no_copyjournal no_copyledger no_show no_lmk = absurd (no_copyledger refl)
+over_arguments name.Show untold no_run no_serve no_newlog no_newjournal no_newledger no_growjournal no_copyjournal no_copyledger no_show no_lmk = absurd (no_show refl)
+over_arguments name.Lmk untold no_run no_serve no_newlog no_newjournal no_newledger no_growjournal no_copyjournal no_copyledger no_show no_lmk = absurd (no_lmk refl)
+over_arguments _ untold no_run no_serve no_newlog no_newjournal no_newledger no_growjournal no_copyjournal no_copyledger no_show no_lmk = tt
 
 pub command_done : {D : Type 0} (meaning : DiskMeaning D) (s : Scene D) (command : CommandName) (asked : Written) → IsOverArguments command
     → HasNoMessage command → HasLeftInput s.streams (IsCommandDone asked s.streams.output_before s.streams.output_after)
@@ -41,8 +43,10 @@ command_done meaning s name.Run asked over none done = absurd over
 command_done meaning s name.Serve asked over none done = absurd over
 command_done meaning s name.NewLog asked over none done = absurd over
 command_done meaning s name.NewJournal asked over none done = absurd over
+command_done meaning s name.NewLedger asked over none done = absurd over
 command_done meaning s name.GrowJournal asked over none done = absurd over
 command_done meaning s name.CopyJournal asked over none done = absurd over
+command_done meaning s name.CopyLedger asked over none done = absurd over
 command_done meaning s name.Show asked over none done = absurd over
 command_done meaning s name.Lmk asked over none done = absurd over
 command_done meaning s name.Mac asked over none done = absurd none
@@ -56,8 +60,10 @@ command_not_done meaning s name.Run asked why over none not_done = absurd over
 command_not_done meaning s name.Serve asked why over none not_done = absurd over
 command_not_done meaning s name.NewLog asked why over none not_done = absurd over
 command_not_done meaning s name.NewJournal asked why over none not_done = absurd over
+command_not_done meaning s name.NewLedger asked why over none not_done = absurd over
 command_not_done meaning s name.GrowJournal asked why over none not_done = absurd over
 command_not_done meaning s name.CopyJournal asked why over none not_done = absurd over
+command_not_done meaning s name.CopyLedger asked why over none not_done = absurd over
 command_not_done meaning s name.Show asked why over none not_done = absurd over
 command_not_done meaning s name.Lmk asked why over none not_done = absurd over
 command_not_done meaning s name.Mac asked why over none not_done = absurd none

@@ -11,7 +11,7 @@ value_of V E value = Ok value
 abbrev fault_of : (V E : Type 0) → E → Result V E
 fault_of V E why = Err why
 
-ok_same : {V E : Type 0} (one other : V) → value_of V E one ≡ value_of V E other → one ≡ other
+pub ok_same : {V E : Type 0} (one other : V) → value_of V E one ≡ value_of V E other → one ≡ other
 ok_same one other same = cc same
 
 err_same : {V E : Type 0} (one other : E) → fault_of V E one ≡ fault_of V E other → one ≡ other

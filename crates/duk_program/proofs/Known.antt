@@ -97,5 +97,7 @@ known texts name.Run = refl
 known texts name.Serve = refl
 known texts name.NewLog = refl
 known texts name.NewJournal = refl
+known texts name.NewLedger = refl
 known texts name.GrowJournal = refl
 known texts name.CopyJournal = refl
+known texts name.CopyLedger = refl

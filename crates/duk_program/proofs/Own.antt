@@ -32,7 +32,9 @@ module _ (may : List ℕ → Type 0) (asked meant : Written) where
   make : (command : CommandName) → HasPlain command asked meant → MayMakeOwn may command asked → MayMakeOwn may command meant
   make name.NewLog plain own = text (codes "FILE") (plain (codes "FILE") refl) own
   make name.NewJournal plain own = text (codes "FILE") (plain (codes "FILE") refl) own
+  make name.NewLedger plain own = text (codes "FILE") (plain (codes "FILE") refl) own
   make name.CopyJournal plain own = text (codes "NEW") (plain (codes "NEW") refl) own
+  make name.CopyLedger plain own = text (codes "NEW") (plain (codes "NEW") refl) own
   make name.Issue plain own = value (codes "out") (plain (codes "out") refl) own
   make _ plain own = tt
 

@@ -125,9 +125,13 @@ row_of name.NewLog = row (codes "new-log") way.Files
     (plain needed (codes "FILE") ∷ reference needed (codes "RECORDS") ∷ [])
 row_of name.NewJournal = row (codes "new-journal") way.Files
     (plain needed (codes "FILE") ∷ reference needed (codes "RECORDS") ∷ [])
+row_of name.NewLedger = row (codes "new-ledger") way.Files
+    (plain needed (codes "FILE") ∷ reference needed (codes "RECORDS") ∷ [])
 row_of name.GrowJournal = row (codes "grow-journal") way.Files
     (plain needed (codes "FILE") ∷ reference needed (codes "RECORDS") ∷ [])
 row_of name.CopyJournal = row (codes "copy-journal") way.Files
+    (plain needed (codes "OLD") ∷ plain needed (codes "NEW") ∷ [])
+row_of name.CopyLedger = row (codes "copy-ledger") way.Files
     (plain needed (codes "OLD") ∷ plain needed (codes "NEW") ∷ [])
 
 -- the commands, in the order in which help lists them
@@ -135,7 +139,7 @@ abbrev pub all_commands : List CommandName
 all_commands = name.Derive ∷ name.Walk ∷ name.Initial ∷ name.Issue ∷ name.Registers ∷ name.Kcv
     ∷ name.Lmk ∷ name.Mac ∷ name.Data ∷ name.Pin ∷ name.Unpin ∷ name.Translate ∷ name.Wrap ∷ name.Unwrap
     ∷ name.Show ∷ name.Request ∷ name.Reply ∷ name.Find ∷ name.Run ∷ name.Serve ∷ name.NewLog
-    ∷ name.NewJournal ∷ name.GrowJournal ∷ name.CopyJournal ∷ []
+    ∷ name.NewJournal ∷ name.NewLedger ∷ name.GrowJournal ∷ name.CopyJournal ∷ name.CopyLedger ∷ []
 
 -- what `clap` knows of an argument
 abbrev pub rule_by : Kind → Text → Rule

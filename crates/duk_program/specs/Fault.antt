@@ -14,6 +14,7 @@ use Rattle.duk_program.specs.declared.fault.Fault.{Fault}
 use Rattle.duk_program.specs.declared.fault.Fault.TheVariants as fault
 use Rattle.duk_script.specs.FaultLine.{fault_line}
 use Rattle.duk_service.specs.CopyJournal.{copy_journal_line}
+use Rattle.duk_service.specs.CopyLedger.{copy_ledger_line}
 use Rattle.duk_service.specs.GrowJournal.{grow_journal_line}
 use Rattle.duk_service.specs.NewFile.{new_file_line}
 use Rattle.duk_service.specs.ServeFault.{serve_fault_line}
@@ -36,6 +37,7 @@ fault_text (fault.Identity why) = identity_line why
 fault_text (fault.NewFile format why) = new_file_line format why
 fault_text (fault.GrowJournal why) = grow_journal_line why
 fault_text (fault.CopyJournal why) = copy_journal_line why
+fault_text (fault.CopyLedger why) = copy_ledger_line why
 
 -- the line of a fault was written, and a text that explains it behind, but for what failed writes cut
 -- off

@@ -19,11 +19,12 @@ use Rattle.duk_program.specs.Random.{random_device}
 use Rattle.duk_service.specs.Files.{FileKnown, IsFrontRead, IsShorterThan}
 use Rattle.duk_service.specs.LogFiles.{AreLinesMade, AreNoLines, DiskKnown, LinesKnown, MakingKnown}
 use Rattle.duk_service.specs.OwnFiles.{IsNoOwnDisk, IsOwnDisk}
-use Rattle.duk_service.specs.declared.left_records.RecordFormat.TheVariants.{Log}
+use Rattle.duk_service.specs.declared.left_records.RecordFormat.TheVariants.{Ledger}
 use Rattle.duk_service.specs.declared.own_files.OpenFault.TheVariants as open_fault
 use Rattle.duk_store.specs.Disk.{DiskMeaning}
-use Rattle.duk_store.specs.DiskLog.{disk_log_meaning, new_disk_log}
-use Rattle.duk_store.specs.Log.{LogMeaning}
+use Rattle.duk_ledger.specs.Ledger.{ledger_meaning, new_ledger}
+use Rattle.duk_ledger.specs.declared.issued.Issued.{Issued}
+use Rattle.duk_store.specs.Listed.{ListMeaning}
 
 -- the order of a request
 abbrev pub order_in : Written → OrderArguments
@@ -65,7 +66,7 @@ issuing made s = record { made = made; streams = s }
 
 -- the lines of an order are made, by what becomes of issued numbers, of which so many are passed
 -- over
-abbrev pub AreLinesMadeBy : IfIssued → {L : Type 0} → LogMeaning L → Order → List ℕ → Ends L → Ends L
+abbrev pub AreLinesMadeBy : IfIssued → {L : Type 0} → ListMeaning L Issued → Order → List ℕ → Ends L → Ends L
     → ℕ → Type 0
 AreLinesMadeBy if_issued.MakeAgain meaning order padding old new passed_over =
     AreMadeAgain meaning order padding old new × (passed_over ≡ 0)
@@ -73,18 +74,18 @@ AreLinesMadeBy way meaning order padding old new passed_over =
     HasIssuedBut meaning (job order (is_passed_over way) padding) old new passed_over
 
 -- not all of them are made
-abbrev pub AreLinesUnmadeBy : IfIssued → {L : Type 0} → LogMeaning L → Order → List ℕ → Ends L
+abbrev pub AreLinesUnmadeBy : IfIssued → {L : Type 0} → ListMeaning L Issued → Order → List ℕ → Ends L
     → Ends L → IssueFault → Type 0
 AreLinesUnmadeBy if_issued.MakeAgain meaning order padding old new why =
     NotMadeAgain meaning order padding old new why
 AreLinesUnmadeBy way meaning order padding old new why =
     IssueFailed meaning (job order (is_passed_over way) padding) old new why
 
-abbrev pub HasMadeLines : {L : Type 0} → LogMeaning L → IssueTask → Ends L → Ends L → ℕ → Type 0
+abbrev pub HasMadeLines : {L : Type 0} → ListMeaning L Issued → IssueTask → Ends L → Ends L → ℕ → Type 0
 HasMadeLines meaning task =
     AreLinesMadeBy task.if_issued meaning task.order task.padding
 
-abbrev pub HasNotMadeLines : {L : Type 0} → LogMeaning L → IssueTask → Ends L → Ends L → IssueFault
+abbrev pub HasNotMadeLines : {L : Type 0} → ListMeaning L Issued → IssueTask → Ends L → Ends L → IssueFault
     → Type 0
 HasNotMadeLines meaning task =
     AreLinesUnmadeBy task.if_issued meaning task.order task.padding
@@ -95,7 +96,7 @@ IsNoted zero old new = IsUntouched old new
 IsNoted (suc more) old new = IsTried old new (passed_over_line (suc more))
 
 -- a task is done over a ledger, and nothing is written behind its lines
-pub record IsIssuedOver {L : Type 0} (meaning : LogMeaning L) (task : IssueTask) (i : Issuing L)
+pub record IsIssuedOver {L : Type 0} (meaning : ListMeaning L Issued) (task : IssueTask) (i : Issuing L)
     : Type 0 where
   pub last : L
   pub written : Known
@@ -106,18 +107,18 @@ pub record IsIssuedOver {L : Type 0} (meaning : LogMeaning L) (task : IssueTask)
   pub noted : IsNoted passed_over i.streams.fault_before i.streams.fault_after
 
 -- what a task comes to when its output makes this known: all lines are made
-abbrev pub HasMadeAll : {L : Type 0} → LogMeaning L → IssueTask → Issuing L → Known → Type 0
+abbrev pub HasMadeAll : {L : Type 0} → ListMeaning L Issued → IssueTask → Issuing L → Known → Type 0
 HasMadeAll {L} meaning task i written = (last : L) × (passed_over : ℕ)
     × HasMadeLines meaning task (ends i.made i.streams.output_before) (ends last written) passed_over
 
 -- or not, for this reason
-abbrev pub HasStopped : {L : Type 0} → LogMeaning L → IssueTask → Issuing L → IssueFault → Known → Type 0
+abbrev pub HasStopped : {L : Type 0} → ListMeaning L Issued → IssueTask → Issuing L → IssueFault → Known → Type 0
 HasStopped {L} meaning task i why written = (last : L)
     × HasNotMadeLines meaning task (ends i.made i.streams.output_before) (ends last written) why
 
 -- why a task is not done over a ledger: not all lines are made, or they could not be handed on;
 -- nothing is noted then
-pub record IsNotIssuedOver {L : Type 0} (meaning : LogMeaning L) (task : IssueTask) (i : Issuing L)
+pub record IsNotIssuedOver {L : Type 0} (meaning : ListMeaning L Issued) (task : IssueTask) (i : Issuing L)
     (why : IssueFault) : Type 0 where
   pub failed : HasFailed (HasMadeAll meaning task i) (HasStopped meaning task i) fault.WriteFailed
       why i.streams.output_after
@@ -134,7 +135,7 @@ pub record IsOverLines {L : Type 0} (lines : LinesKnown) (i : Issuing L)
   pub no_output : IsUntouched i.streams.output_before i.streams.output_after
 
 -- a task is done with its lines in a new file
-abbrev pub IsIssuedToFile : {L : Type 0} → LogMeaning L → LinesKnown → IssueTask → Issuing L → Type 0
+abbrev pub IsIssuedToFile : {L : Type 0} → ListMeaning L Issued → LinesKnown → IssueTask → Issuing L → Type 0
 IsIssuedToFile meaning lines task i = IsOverLines lines i (IsIssuedOver meaning task)
 
 -- nothing is written or noted
@@ -153,7 +154,7 @@ pub record HasNoLines (lines : LinesKnown) (s : Streams) : Type 0 where
   pub untold : IsUntold s
 
 -- why a task is not done with its lines in a new file
-abbrev pub IsNotIssuedToFile : {L : Type 0} → LogMeaning L → LinesKnown → IssueTask → Issuing L
+abbrev pub IsNotIssuedToFile : {L : Type 0} → ListMeaning L Issued → LinesKnown → IssueTask → Issuing L
     → IssueFault → Type 0
 IsNotIssuedToFile meaning lines task i why =
     ((why ≡ fault.WriteFailed) × HasLostFirst i.streams)
@@ -161,13 +162,13 @@ IsNotIssuedToFile meaning lines task i why =
     ⊎ IsOverLines lines i (λ over. IsNotIssuedOver meaning task over why)
 
 -- a task is done with the lines on the output, or in a new file under a path
-abbrev pub IsIssuedTo : {L D : Type 0} → LogMeaning L → (List ℕ → MakingKnown D)
+abbrev pub IsIssuedTo : {L D : Type 0} → ListMeaning L Issued → (List ℕ → MakingKnown D)
     → Option (List ℕ) → IssueTask → Issuing L → Type 0
 IsIssuedTo meaning making None = IsIssuedOver meaning
 IsIssuedTo meaning making (Some path) = IsIssuedToFile meaning (making path).lines
 
 -- why it is not
-abbrev pub IsNotIssuedTo : {L D : Type 0} → LogMeaning L → (List ℕ → MakingKnown D)
+abbrev pub IsNotIssuedTo : {L D : Type 0} → ListMeaning L Issued → (List ℕ → MakingKnown D)
     → Option (List ℕ) → IssueTask → Issuing L → IssueFault → Type 0
 IsNotIssuedTo meaning making None = IsNotIssuedOver meaning
 IsNotIssuedTo meaning making (Some path) = IsNotIssuedToFile meaning (making path).lines
@@ -186,13 +187,14 @@ issue_files_known held ledger making =
 
 -- the disk of the ledger's file is opened. Where it is honest, its bytes are such as a ledger leaves
 abbrev pub IsLedgerOpened : {D : Type 0} → DiskMeaning D → DiskKnown D → D → Type 0
-IsLedgerOpened meaning known = IsOwnDisk Log meaning known
+IsLedgerOpened meaning known = IsOwnDisk Ledger meaning known
 
 -- why it is not, and nothing is written then
 abbrev pub IsLedgerUnopened : {D : Type 0} → DiskMeaning D → DiskKnown D → IssueFault → Type 0
-IsLedgerUnopened meaning known fault.LedgerUnopened = IsNoOwnDisk Log meaning known open_fault.Unopened
-IsLedgerUnopened meaning known fault.LedgerFailed = IsNoOwnDisk Log meaning known open_fault.Failed
-IsLedgerUnopened meaning known fault.LedgerDamaged = IsNoOwnDisk Log meaning known open_fault.Foreign
+IsLedgerUnopened meaning known fault.LedgerUnopened = IsNoOwnDisk Ledger meaning known open_fault.Unopened
+IsLedgerUnopened meaning known fault.LedgerFailed = IsNoOwnDisk Ledger meaning known open_fault.Failed
+IsLedgerUnopened meaning known fault.LedgerOldVersion = IsNoOwnDisk Ledger meaning known open_fault.OldVersion
+IsLedgerUnopened meaning known fault.LedgerDamaged = IsNoOwnDisk Ledger meaning known open_fault.Foreign
 IsLedgerUnopened meaning known _ = ⊥
 
 -- the arguments are read; there is padding of the system's random device, six bytes for each key;
@@ -211,8 +213,8 @@ pub record IsBegun {D : Type 0} (meaning : DiskMeaning D) (known : IssueFilesKno
 abbrev pub HasIssuedFiles : {D : Type 0} → DiskMeaning D → IssueFilesKnown D → Written → Streams
     → Type 0
 HasIssuedFiles meaning known asked s = IsBegun meaning known asked
-    (λ task disk. IsIssuedTo (disk_log_meaning meaning) known.making
-    (value_in (codes "out") asked) task (issuing (new_disk_log disk) s))
+    (λ task disk. IsIssuedTo (ledger_meaning meaning) known.making
+    (value_in (codes "out") asked) task (issuing (new_ledger disk) s))
 
 -- the arguments are refused, and nothing is written
 pub record HasNoOrder (asked : Written) (s : Streams) (why : IssueFault) : Type 0 where
@@ -250,5 +252,5 @@ HasNotIssuedFiles meaning known asked s why =
     HasNoOrder asked s why ⊎ HasNoPadding known.random asked s why
     ⊎ HasNoLedger meaning known asked s why
     ⊎ IsBegun meaning known asked
-    (λ task disk. IsNotIssuedTo (disk_log_meaning meaning) known.making
-    (value_in (codes "out") asked) task (issuing (new_disk_log disk) s) why)
+    (λ task disk. IsNotIssuedTo (ledger_meaning meaning) known.making
+    (value_in (codes "out") asked) task (issuing (new_ledger disk) s) why)

@@ -19,7 +19,7 @@ use Rattle.duk_program.specs.IssueFiles.{HasIssuedFiles, HasNotIssuedFiles, Issu
 use Rattle.duk_program.specs.Items.{AreOthersReady, AreOthersRefused, LineItems, command_of_line, items_of}
 use Rattle.duk_program.specs.Lmk.{HasNotPrintedLmk, HasPrintedLmk}
 use Rattle.duk_program.specs.Message.{HasUnreadText, IsMessage, message_of}
-use Rattle.duk_program.specs.NewJournal.{IsCopyMade, IsCopyUnmade, IsNewJournalMade, IsNewJournalUnmade}
+use Rattle.duk_program.specs.NewJournal.{IsCopyMade, IsCopyUnmade, IsLedgerCopyMade, IsLedgerCopyUnmade, IsNewJournalMade, IsNewJournalUnmade, IsNewLedgerMade, IsNewLedgerUnmade}
 use Rattle.duk_program.specs.Random.{random_device}
 use Rattle.duk_program.specs.Refusal.{IsEndStatus}
 use Rattle.duk_program.specs.Roots.{IsBehindNote}
@@ -92,10 +92,15 @@ IsDoneUntold meaning s name.NewLog asked = IsIdle s
     (HasMadeFile Log meaning (new_in s asked) (text_in (codes "RECORDS") asked))
 IsDoneUntold meaning s name.NewJournal asked = IsIdle s (IsNewJournalMade meaning
     (s.held random_device) (new_in s asked) (text_in (codes "RECORDS") asked))
+IsDoneUntold meaning s name.NewLedger asked = IsIdle s (IsNewLedgerMade meaning
+    (s.held random_device) (new_in s asked) (text_in (codes "RECORDS") asked))
 IsDoneUntold meaning s name.GrowJournal asked = IsIdle s (HasGrownJournal meaning
     (s.disks (text_in (codes "FILE") asked)) (text_in (codes "RECORDS") asked))
 IsDoneUntold meaning s name.CopyJournal asked = IsIdle s (IsCopyMade meaning (s.held random_device)
     (s.disks (text_in (codes "OLD") asked)) (s.making (text_in (codes "NEW") asked)))
+IsDoneUntold meaning s name.CopyLedger asked = IsIdle s (IsLedgerCopyMade meaning
+    (s.held random_device) (s.disks (text_in (codes "OLD") asked))
+    (s.making (text_in (codes "NEW") asked)))
 IsDoneUntold meaning s name.Show asked = HasLeftInput s.streams (HasShownAsked asked
     (s.held (text_in (codes "WHAT") asked)) s.streams.output_before s.streams.output_after)
 IsDoneUntold meaning s name.Lmk asked = HasLeftInput s.streams
@@ -144,8 +149,13 @@ IsNotDoneUntold meaning s name.Serve asked why = HasNotServedFiles meaning (serv
 IsNotDoneUntold meaning s name.NewLog asked why = IsLogUnmade meaning s asked why
 IsNotDoneUntold meaning s name.NewJournal asked why = IsIdle s (IsNewJournalUnmade meaning
     (s.held random_device) (new_in s asked) (text_in (codes "RECORDS") asked) why)
+IsNotDoneUntold meaning s name.NewLedger asked why = IsIdle s (IsNewLedgerUnmade meaning
+    (s.held random_device) (new_in s asked) (text_in (codes "RECORDS") asked) why)
 IsNotDoneUntold meaning s name.GrowJournal asked why = IsJournalUngrown meaning s asked why
 IsNotDoneUntold meaning s name.CopyJournal asked why = IsIdle s (IsCopyUnmade meaning
+    (s.held random_device) (s.disks (text_in (codes "OLD") asked))
+    (s.making (text_in (codes "NEW") asked)) why)
+IsNotDoneUntold meaning s name.CopyLedger asked why = IsIdle s (IsLedgerCopyUnmade meaning
     (s.held random_device) (s.disks (text_in (codes "OLD") asked))
     (s.making (text_in (codes "NEW") asked)) why)
 IsNotDoneUntold meaning s name.Show asked why = HasLeftInput s.streams (HasNotShownAsked asked

@@ -17,7 +17,9 @@ MayWriteOwn may_write _ asked = ⊤
 abbrev pub MayMakeOwn : (List ℕ → Type 0) → CommandName → Written → Type 0
 MayMakeOwn may_make name.NewLog asked = may_make (text_in (codes "FILE") asked)
 MayMakeOwn may_make name.NewJournal asked = may_make (text_in (codes "FILE") asked)
+MayMakeOwn may_make name.NewLedger asked = may_make (text_in (codes "FILE") asked)
 MayMakeOwn may_make name.CopyJournal asked = may_make (text_in (codes "NEW") asked)
+MayMakeOwn may_make name.CopyLedger asked = may_make (text_in (codes "NEW") asked)
 MayMakeOwn may_make name.Issue asked = IfSome (value_in (codes "out") asked) may_make
 MayMakeOwn may_make _ asked = ⊤
 

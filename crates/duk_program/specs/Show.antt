@@ -15,16 +15,17 @@ use Rattle.duk_show.specs.Frame.{IsFrameRefused, IsFrameText}
 use Rattle.duk_show.specs.CheckedFrame.{IsCheckRefused, IsCheckedText}
 use Rattle.duk_show.specs.Image.{IsImageRefused, IsImageText}
 use Rattle.duk_show.specs.Journal.{IsJournalRefused, IsJournalText}
+use Rattle.duk_show.specs.Ledger.{IsLedgerRefused, IsLedgerText}
 use Rattle.duk_show.specs.Log.{IsLogRefused, IsLogText}
 use Rattle.duk_show.specs.declared.fault.ShowFault.{ShowFault}
-use Rattle.duk_show.specs.declared.fault.ShowFault.TheVariants.{JournalTooLong, JournalUnread, KindRefused, LogTooLong, LogUnread, OutOfMemory}
+use Rattle.duk_show.specs.declared.fault.ShowFault.TheVariants.{JournalTooLong, JournalUnread, KindRefused, LedgerTooLong, LedgerUnread, LogTooLong, LogUnread, OutOfMemory}
 
--- the most bytes of a log or a journal that comes through a pipe, and of a log that a fault is
+-- the most bytes of a log, a journal or a ledger that comes through a pipe, and of a log that a fault is
 -- explained by
 abbrev pub longest_log : ℕ
 longest_log = 2 ^ 30
 
--- the arguments of `show`: the kind, the text, or the path of a log or of a journal, whether keys are
+-- the arguments of `show`: the kind, the text, or the path of a log, a journal or a ledger, whether keys are
 -- shown, the key that tests the MAC of a frame, where there is one, and what the file under that path
 -- holds
 pub record ShowArguments : Type 0 where
@@ -98,6 +99,25 @@ IsJournalFileRefused held JournalTooLong = IsLongerThan longest_log held
 IsJournalFileRefused held OutOfMemory = ⊤
 IsJournalFileRefused held why = HasNoJournal held why
 
+-- the lines of the ledger that a file holds
+pub record IsLedgerFileText (held : FileKnown) (text : List ℕ) : Type 0 where
+  pub bytes : List ℕ
+  pub read : HasBytes held bytes
+  pub is_text : IsLedgerText bytes text
+
+-- the file holds what is no ledger
+pub record HasNoLedgerShown (held : FileKnown) (why : ShowFault) : Type 0 where
+  pub bytes : List ℕ
+  pub read : HasBytes held bytes
+  pub cause : IsLedgerRefused bytes why
+
+-- why the ledger of a file is not shown; memory may be refused at any time
+abbrev pub IsLedgerFileRefused : FileKnown → ShowFault → Type 0
+IsLedgerFileRefused held LedgerUnread = IsUnreadableFile held
+IsLedgerFileRefused held LedgerTooLong = IsLongerThan longest_log held
+IsLedgerFileRefused held OutOfMemory = ⊤
+IsLedgerFileRefused held why = HasNoLedgerShown held why
+
 -- the lines of a text of its kind
 abbrev pub IsShowText : ShowArguments → List ℕ → Type 0
 IsShowText arguments text =
@@ -107,6 +127,7 @@ IsShowText arguments text =
     ⊎ ((arguments.kind ≡ codes "image") × IsImageText arguments.what arguments.show text)
     ⊎ ((arguments.kind ≡ codes "log") × IsLogFileText arguments.held text)
     ⊎ ((arguments.kind ≡ codes "journal") × IsJournalFileText arguments.held text)
+    ⊎ ((arguments.kind ≡ codes "ledger") × IsLedgerFileText arguments.held text)
 
 -- there is no such kind
 pub record IsNoKind (kind : List ℕ) : Type 0 where
@@ -115,6 +136,7 @@ pub record IsNoKind (kind : List ℕ) : Type 0 where
   pub no_image : kind ≢ codes "image"
   pub no_log : kind ≢ codes "log"
   pub no_journal : kind ≢ codes "journal"
+  pub no_ledger : kind ≢ codes "ledger"
 
 -- why nothing is shown; memory may be refused at any time
 abbrev pub IsShowRefused : ShowArguments → ShowFault → Type 0
@@ -125,6 +147,7 @@ IsShowRefused arguments why =
     ⊎ ((arguments.kind ≡ codes "image") × IsImageRefused arguments.what why)
     ⊎ ((arguments.kind ≡ codes "log") × IsLogFileRefused arguments.held why)
     ⊎ ((arguments.kind ≡ codes "journal") × IsJournalFileRefused arguments.held why)
+    ⊎ ((arguments.kind ≡ codes "ledger") × IsLedgerFileRefused arguments.held why)
     ⊎ (IsNoKind arguments.kind × (why ≡ KindRefused))
     ⊎ (why ≡ OutOfMemory)
 

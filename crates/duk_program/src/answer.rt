@@ -5,7 +5,7 @@ ghost use Rattle.duk_arguments.specs.Request.{text_in};
 ghost use Rattle.duk_io.specs.Known.{Known};
 ghost use Rattle.duk_io.specs.Sink.{IsHandedOn};
 ghost use Rattle.duk_program.specs.Meant.{AreAllAnswered, AreItemsDone, AreItemsNotDone, AreNotAllAnswered, IsAnswered, IsDoneAlone, IsDoneOverMessage, IsDoneUntold, IsNotAnswered, IsNotDoneAlone, IsNotDoneOverMessage, IsNotDoneUntold};
-ghost use Rattle.duk_program.specs.NewJournal.{IsCopyMade, IsCopyUnmade, IsNewJournalMade, IsNewJournalUnmade};
+ghost use Rattle.duk_program.specs.NewJournal.{IsCopyMade, IsCopyUnmade, IsLedgerCopyMade, IsLedgerCopyUnmade, IsNewJournalMade, IsNewJournalUnmade, IsNewLedgerMade, IsNewLedgerUnmade};
 ghost use Rattle.duk_program.specs.Random.{random_device};
 ghost use Rattle.duk_program.specs.Own.{MayUseOwn};
 ghost use Rattle.duk_program.specs.Scene.{scene};
@@ -31,6 +31,7 @@ use crate::random::draw_identity;
 use duk_commands::{BatchFault, do_batch, hand_on};
 use duk_io::{Sink, Source};
 use duk_service::copy_journal::copy_journal;
+use duk_service::copy_ledger::copy_ledger;
 use duk_service::grow_journal::grow_journal;
 use duk_service::new_file::{NewFile, new_file};
 use duk_service::{FileSystem, LogFiles};
@@ -179,6 +180,7 @@ fn answer_untold<S: FileSystem + LogFiles, R: Source, W: Sink>(
         CommandName::Serve => serve_files(alloc, files, request, input, output),
         CommandName::NewLog => make_file(alloc, files, NewFile::Log, request),
         CommandName::NewJournal => make_journal(alloc, files, request),
+        CommandName::NewLedger => make_ledger(alloc, files, request),
         CommandName::GrowJournal => {
             match grow_journal(files, request.text("FILE"), request.text("RECORDS")) {
                 Ok(()) => Ok(()),
@@ -186,6 +188,7 @@ fn answer_untold<S: FileSystem + LogFiles, R: Source, W: Sink>(
             }
         }
         CommandName::CopyJournal => make_copy(alloc, files, request),
+        CommandName::CopyLedger => make_ledger_copy(alloc, files, request),
         CommandName::Show => show_asked(alloc, files, request, output),
         CommandName::Lmk => lmk_asked(alloc, request, output),
         CommandName::Mac | CommandName::Data => {
@@ -240,6 +243,28 @@ fn make_journal<S: FileSystem + LogFiles>(
     }
 }
 
+/// Makes the file of a ledger, with an identity that is drawn first.
+fn make_ledger<S: FileSystem + LogFiles>(
+    alloc: Global,
+    files: &S,
+    request: &Request<'_>,
+) -> Result<(), Fault>
+    requires { S.may_make files.now (text_in (codes "FILE") request.now) }
+    ensures made { OnOk result (IsNewLedgerMade S.Disk.meaning
+        (S.held files.now random_device)
+        (S.making files.now (text_in (codes "FILE") request.now))
+        (text_in (codes "RECORDS") request.now)) }
+    ensures refused { IfErr result (IsNewLedgerUnmade S.Disk.meaning
+        (S.held files.now random_device)
+        (S.making files.now (text_in (codes "FILE") request.now))
+        (text_in (codes "RECORDS") request.now)) }
+{
+    match draw_identity(alloc, files) {
+        Ok(identity) => make_file(alloc, files, NewFile::Ledger { identity }, request),
+        Err(why) => Err(Fault::Identity(why)),
+    }
+}
+
 /// Makes the copy of a journal, with an identity that is drawn first.
 fn make_copy<S: FileSystem + LogFiles>(
     alloc: Global,
@@ -270,7 +295,38 @@ fn make_copy<S: FileSystem + LogFiles>(
     }
 }
 
-/// Makes the file of a log or a journal.
+/// Makes the copy of a ledger, with an identity that is drawn first.
+fn make_ledger_copy<S: FileSystem + LogFiles>(
+    alloc: Global,
+    files: &S,
+    request: &Request<'_>,
+) -> Result<(), Fault>
+    requires { S.may_make files.now (text_in (codes "NEW") request.now) }
+    ensures made { OnOk result (IsLedgerCopyMade S.Disk.meaning (S.held files.now random_device)
+        (S.disks files.now (text_in (codes "OLD") request.now))
+        (S.making files.now (text_in (codes "NEW") request.now))) }
+    ensures refused { IfErr result (IsLedgerCopyUnmade S.Disk.meaning
+        (S.held files.now random_device)
+        (S.disks files.now (text_in (codes "OLD") request.now))
+        (S.making files.now (text_in (codes "NEW") request.now))) }
+{
+    let identity = match draw_identity(alloc, files) {
+        Ok(identity) => identity,
+        Err(why) => return Err(Fault::Identity(why)),
+    };
+    match copy_ledger(
+        alloc,
+        files,
+        request.text("OLD"),
+        request.text("NEW"),
+        identity,
+    ) {
+        Ok(()) => Ok(()),
+        Err(why) => Err(Fault::CopyLedger(why)),
+    }
+}
+
+/// Makes the file of a log, a journal or a ledger.
 fn make_file<S: LogFiles>(
     alloc: Global,
     files: &S,

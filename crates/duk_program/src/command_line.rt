@@ -25,7 +25,7 @@ use std::alloc::{AllocError, Global};
 const VERSION: &str = "0.1.0";
 
 /// The program's commands, in the order in which help lists them.
-fn all_commands() -> [CommandName; 24]
+fn all_commands() -> [CommandName; 26]
     ensures { result ≡ all_commands }
 {
     [
@@ -51,8 +51,10 @@ fn all_commands() -> [CommandName; 24]
         CommandName::Serve,
         CommandName::NewLog,
         CommandName::NewJournal,
+        CommandName::NewLedger,
         CommandName::GrowJournal,
         CommandName::CopyJournal,
+        CommandName::CopyLedger,
     ]
 }
 
@@ -83,8 +85,10 @@ pub(crate) fn usage_of<'a>(command: CommandName) -> Usage<'a>
         CommandName::Serve => commands::serve::usage(),
         CommandName::NewLog => commands::new_log::usage(),
         CommandName::NewJournal => commands::new_journal::usage(),
+        CommandName::NewLedger => commands::new_ledger::usage(),
         CommandName::GrowJournal => commands::grow_journal::usage(),
         CommandName::CopyJournal => commands::copy_journal::usage(),
+        CommandName::CopyLedger => commands::copy_ledger::usage(),
     }
 }
 

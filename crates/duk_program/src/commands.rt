@@ -8,6 +8,7 @@ ghost use Rattle.duk_program.specs.Commands.{IsCommandDone, IsCommandNotDone, Is
 ghost use Rattle.duk_program.specs.inner.Commands.{IsOverArguments, IsOverMessage, MakesLines};
 
 pub(crate) mod copy_journal;
+pub(crate) mod copy_ledger;
 pub(crate) mod data;
 pub(crate) mod derive;
 pub(crate) mod find;
@@ -18,6 +19,7 @@ pub(crate) mod kcv;
 pub(crate) mod lmk;
 pub(crate) mod mac;
 pub(crate) mod new_journal;
+pub(crate) mod new_ledger;
 pub(crate) mod new_log;
 pub(crate) mod pin;
 pub(crate) mod registers;

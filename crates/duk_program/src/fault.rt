@@ -13,6 +13,7 @@ use duk_config::ScriptFault;
 use duk_io::Sink;
 use duk_script::print_fault;
 use duk_service::copy_journal::CopyJournalFault;
+use duk_service::copy_ledger::CopyLedgerFault;
 use duk_service::grow_journal::GrowJournalFault;
 use duk_service::new_file::NewFileFault;
 use duk_service::{FileFault, RecordFormat, ServeFault};
@@ -44,14 +45,16 @@ pub enum Fault {
     Script(ScriptFault),
     /// Of `serve`.
     Serve(ServeFault),
-    /// Of the identity of a new journal.
+    /// Of the identity of a new journal or ledger.
     Identity(IdentityFault),
-    /// Of `new-log` and `new-journal`.
+    /// Of `new-log`, `new-journal` and `new-ledger`.
     NewFile(RecordFormat, NewFileFault),
     /// Of `grow-journal`.
     GrowJournal(GrowJournalFault),
     /// Of `copy-journal`.
     CopyJournal(CopyJournalFault),
+    /// Of `copy-ledger`.
+    CopyLedger(CopyLedgerFault),
 }
 
 impl Fault {
@@ -76,6 +79,7 @@ impl Fault {
             Fault::NewFile(format, why) => tell(fault, why.line(*format).as_bytes()),
             Fault::GrowJournal(why) => tell(fault, why.line().as_bytes()),
             Fault::CopyJournal(why) => tell(fault, why.line().as_bytes()),
+            Fault::CopyLedger(why) => tell(fault, why.line().as_bytes()),
         }
     }
 }

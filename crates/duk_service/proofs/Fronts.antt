@@ -7,12 +7,13 @@ use Rattle.std.proofs.lemmas.List.{drop_all, drop_at, get_or-drop, get_or-replic
 use Rattle.std.specs.List.{All}
 use Rattle.duk_store.specs.Disk.{DiskState, range_of}
 use Rattle.duk_service.specs.GrowJournal.{IsGrowable}
-use Rattle.duk_service.specs.LeftRecords.{AreClosedFrom, AreInGroups, HasFront, IsForeignAt, IsFront, IsLeftBy, IsOpen, IsWhole, IsZero, followers_in, record_at, record_length}
+use Rattle.duk_service.specs.LeftRecords.{AreClosedFrom, AreInGroups, HasFront, IsForeignAt, IsFront, IsLedgerFront, IsLeftBy, IsOpen, IsWhole, IsZero, followers_in, record_at, record_length}
 use Rattle.duk_service.specs.inner.GrowJournal.{AreSeenZeros, AreZerosBehind, IsPartSeen, IsSeenToGrow, front_of}
 use Rattle.duk_service.specs.inner.LeftRecords.{HasMark, IsFrontSeen, IsLastIn, IsSeen, LacksMark}
 use Rattle.duk_service.specs.declared.left_records.Mark.{Mark}
+use Rattle.duk_journal_copy.specs.declared.version.Version.TheVariants.{One, Two}
 use Rattle.duk_service.specs.declared.left_records.Layout.{Layout}
-use Rattle.duk_service.specs.declared.left_records.Layout.TheVariants.{Journal, Log}
+use Rattle.duk_service.specs.declared.left_records.Layout.TheVariants.{Journal, Ledger, Log}
 use Rattle.duk_service.specs.declared.left_records.Seen.{Seen}
 use Rattle.duk_service.specs.declared.left_records.Seen.TheVariants.{Cut, Empty, Foreign, Left, OtherFront}
 use Rattle.duk_service.proofs.LeftRecords.{no_record, none_is_zero, record_in_piece, zero_closed}
@@ -41,11 +42,15 @@ pub part_begins : (layout : Layout) (records : ℕ) (bytes : List ℕ) → 1 ≤
 part_begins Log records bytes some begins = begins
 part_begins (Journal version) records bytes some begins =
     subst (λ (b : List ℕ). IsFront version b) (sym (front_record (Journal version) records bytes 0 (omega (arith, some)))) begins
+part_begins (Ledger version) records bytes some begins =
+    subst (λ (b : List ℕ). IsLedgerFront version b) (sym (front_record (Ledger version) records bytes 0 (omega (arith, some)))) begins
 
 pub whole_begins : (layout : Layout) (records : ℕ) (bytes : List ℕ) → 1 ≤ records → HasFront layout (front_of layout records bytes) → HasFront layout bytes
 whole_begins Log records bytes some begins = begins
 whole_begins (Journal version) records bytes some begins =
     subst (λ (b : List ℕ). IsFront version b) (front_record (Journal version) records bytes 0 (omega (arith, some))) begins
+whole_begins (Ledger version) records bytes some begins =
+    subst (λ (b : List ℕ). IsLedgerFront version b) (front_record (Ledger version) records bytes 0 (omega (arith, some))) begins
 
 part_zero : (n a b : ℕ) (bytes : List ℕ) → b ≤ a → All (λ byte. byte ≡ 0) (drop b bytes) → IsZero (take n (drop a bytes))
 part_zero n a b bytes order zeros k d inside =
@@ -59,10 +64,14 @@ part_zero n a b bytes order zeros k d inside =
 behind_zero : (layout : Layout) (records place : ℕ) (bytes : List ℕ) → AreZerosBehind layout records bytes → records ≤ place → IsZero (record_at layout place bytes)
 behind_zero Log records place bytes zeros past = part_zero 16 (16 * place) (16 * records) bytes (omega (arith, past)) zeros
 behind_zero (Journal version) records place bytes zeros past = part_zero 32 (32 * place) (32 * records) bytes (omega (arith, past)) zeros
+behind_zero (Ledger One) records place bytes zeros past = part_zero 16 (16 * place) (16 * records) bytes (omega (arith, past)) zeros
+behind_zero (Ledger Two) records place bytes zeros past = part_zero 32 (32 * place) (32 * records) bytes (omega (arith, past)) zeros
 
 pub front_length : (layout : Layout) (records : ℕ) (bytes : List ℕ) → record_length layout * records ≤ length bytes → length (front_of layout records bytes) ≡ record_length layout * records
 front_length Log records bytes inside = length-take-le (16 * records) (drop (16 * 0) bytes) (omega (arith, inside, length-drop (16 * 0) bytes))
 front_length (Journal version) records bytes inside = length-take-le (32 * records) (drop (32 * 0) bytes) (omega (arith, inside, length-drop (32 * 0) bytes))
+front_length (Ledger One) records bytes inside = length-take-le (16 * records) (drop (16 * 0) bytes) (omega (arith, inside, length-drop (16 * 0) bytes))
+front_length (Ledger Two) records bytes inside = length-take-le (32 * records) (drop (32 * 0) bytes) (omega (arith, inside, length-drop (32 * 0) bytes))
 
 module _ (layout : Layout) (records : ℕ) (bytes : List ℕ) (inside : record_length layout * records ≤ length bytes) (zeros : AreZerosBehind layout records bytes) where
   abbrev part : List ℕ
@@ -102,10 +111,14 @@ module _ (layout : Layout) (records : ℕ) (bytes : List ℕ) (inside : record_l
 pub whole_size_of : (layout : Layout) (size n : ℕ) → n ≡ record_length layout → size % n ≡ 0 → size ≡ record_length layout * (size / n)
 whole_size_of Log size n is whole = subst (λ (m : ℕ). size ≡ 16 * (size / m)) (sym is) (omega (arith, subst (λ (m : ℕ). size % m ≡ 0) is whole))
 whole_size_of (Journal version) size n is whole = subst (λ (m : ℕ). size ≡ 32 * (size / m)) (sym is) (omega (arith, subst (λ (m : ℕ). size % m ≡ 0) is whole))
+whole_size_of (Ledger One) size n is whole = subst (λ (m : ℕ). size ≡ 16 * (size / m)) (sym is) (omega (arith, subst (λ (m : ℕ). size % m ≡ 0) is whole))
+whole_size_of (Ledger Two) size n is whole = subst (λ (m : ℕ). size ≡ 32 * (size / m)) (sym is) (omega (arith, subst (λ (m : ℕ). size % m ≡ 0) is whole))
 
 all_front : (layout : Layout) (records : ℕ) (bytes : List ℕ) → length bytes ≡ record_length layout * records → front_of layout records bytes ≡ bytes
 all_front Log records bytes size = take_all (16 * records) bytes (omega (arith, size))
 all_front (Journal version) records bytes size = take_all (32 * records) bytes (omega (arith, size))
+all_front (Ledger One) records bytes size = take_all (16 * records) bytes (omega (arith, size))
+all_front (Ledger Two) records bytes size = take_all (32 * records) bytes (omega (arith, size))
 
 none_behind : (layout : Layout) (records : ℕ) (bytes : List ℕ) → length bytes ≡ record_length layout * records → AreZerosBehind layout records bytes
 none_behind layout records bytes size =
@@ -126,10 +139,14 @@ whole_seen layout records disk size OtherFront says = absurd says
 same_parts : (layout : Layout) (a b m n : ℕ) → record_length layout * a + m ≡ record_length layout * b + n → m < record_length layout → n < record_length layout → (a ≡ b) × (m ≡ n)
 same_parts Log a b m n is less below = (omega (arith, is, less, below), omega (arith, is, less, below))
 same_parts (Journal version) a b m n is less below = (omega (arith, is, less, below), omega (arith, is, less, below))
+same_parts (Ledger One) a b m n is less below = (omega (arith, is, less, below), omega (arith, is, less, below))
+same_parts (Ledger Two) a b m n is less below = (omega (arith, is, less, below), omega (arith, is, less, below))
 
 take_front : (layout : Layout) (records : ℕ) (front zeros : List ℕ) → length front ≡ record_length layout * records → front_of layout records (front ++ zeros) ≡ front
 take_front Log records front zeros size = take_at front zeros (16 * records) size
 take_front (Journal version) records front zeros size = take_at front zeros (32 * records) size
+take_front (Ledger One) records front zeros size = take_at front zeros (16 * records) size
+take_front (Ledger Two) records front zeros size = take_at front zeros (32 * records) size
 
 zeros_of : (n : ℕ) → All {X = ℕ} (λ byte. byte ≡ 0) (replicate n 0)
 zeros_of n k d inside = get_or-replicate n k 0 d (omega (arith, inside, length-replicate {A = ℕ} n 0))
@@ -155,6 +172,8 @@ are_replicated zeros all = same_number_lists zeros (replicate (length zeros) 0) 
 front_is : (layout : Layout) (records : ℕ) (bytes : List ℕ) → front_of layout records bytes ≡ take (record_length layout * records) bytes
 front_is Log records bytes = refl
 front_is (Journal version) records bytes = refl
+front_is (Ledger One) records bytes = refl
+front_is (Ledger Two) records bytes = refl
 
 pub growable_of : (layout : Layout) (records rest : ℕ) (bytes : List ℕ) → length bytes ≡ record_length layout * records + rest → rest < record_length layout
     → IsLeftBy layout (front_of layout records bytes) → All (λ byte. byte ≡ 0) (drop (record_length layout * records) bytes) → IsGrowable layout bytes
@@ -177,6 +196,8 @@ growable_of layout records rest bytes size less left zeros =
 size_parts : (layout : Layout) (size n : ℕ) → n ≡ record_length layout → (size ≡ record_length layout * (size / n) + (size - n * (size / n))) × (size - n * (size / n) < record_length layout)
 size_parts Log size n is = subst (λ (m : ℕ). (size ≡ 16 * (size / m) + (size - m * (size / m))) × (size - m * (size / m) < 16)) (sym is) (omega arith, omega arith)
 size_parts (Journal version) size n is = subst (λ (m : ℕ). (size ≡ 32 * (size / m) + (size - m * (size / m))) × (size - m * (size / m) < 32)) (sym is) (omega arith, omega arith)
+size_parts (Ledger One) size n is = subst (λ (m : ℕ). (size ≡ 16 * (size / m) + (size - m * (size / m))) × (size - m * (size / m) < 16)) (sym is) (omega arith, omega arith)
+size_parts (Ledger Two) size n is = subst (λ (m : ℕ). (size ≡ 32 * (size / m) + (size - m * (size / m))) × (size - m * (size / m) < 32)) (sym is) (omega arith, omega arith)
 
 pub grown_parts : (layout : Layout) (size n : ℕ) → n ≡ record_length layout → (bytes : List ℕ) → length bytes ≡ size → IsGrowable layout bytes
     → (1 ≤ size / n) × IsLeftBy layout (front_of layout (size / n) bytes) × All (λ byte. byte ≡ 0) (drop (record_length layout * (size / n)) bytes)

@@ -7,8 +7,9 @@ use Rattle.duk_service.specs.LeftRecords.{AreClosedFrom, AreInGroups, HasFront, 
 use Rattle.duk_service.specs.inner.LeftRecords.{HasLast, HasMark, HasNone, IsLastIn, LacksMark, MayBeUsed, MayStand}
 use Rattle.duk_service.specs.declared.left_records.Mark.{Mark}
 use Rattle.duk_service.specs.declared.left_records.Mark.TheVariants.{Gated, Used}
+use Rattle.duk_journal_copy.specs.declared.version.Version.TheVariants.{One, Two}
 use Rattle.duk_service.specs.declared.left_records.Layout.{Layout}
-use Rattle.duk_service.specs.declared.left_records.Layout.TheVariants.{Journal, Log}
+use Rattle.duk_service.specs.declared.left_records.Layout.TheVariants.{Journal, Ledger, Log}
 
 -- ---- records of a piece
 
@@ -26,6 +27,12 @@ record_in_piece Log at count k bytes inside =
     range_within 16 (16 * k) (16 * count) (16 * at) bytes (omega (arith, inside))
     ∙ ap (λ (m : ℕ). take 16 (drop m bytes)) (let e : 16 * at + 16 * k ≡ 16 * (at + k) = omega arith in e)
 record_in_piece (Journal version) at count k bytes inside =
+    range_within 32 (32 * k) (32 * count) (32 * at) bytes (omega (arith, inside))
+    ∙ ap (λ (m : ℕ). take 32 (drop m bytes)) (let e : 32 * at + 32 * k ≡ 32 * (at + k) = omega arith in e)
+record_in_piece (Ledger One) at count k bytes inside =
+    range_within 16 (16 * k) (16 * count) (16 * at) bytes (omega (arith, inside))
+    ∙ ap (λ (m : ℕ). take 16 (drop m bytes)) (let e : 16 * at + 16 * k ≡ 16 * (at + k) = omega arith in e)
+record_in_piece (Ledger Two) at count k bytes inside =
     range_within 32 (32 * k) (32 * count) (32 * at) bytes (omega (arith, inside))
     ∙ ap (λ (m : ℕ). take 32 (drop m bytes)) (let e : 32 * at + 32 * k ≡ 32 * (at + k) = omega arith in e)
 
@@ -70,6 +77,8 @@ pub no_record : (layout : Layout) (place records : ℕ) (bytes : List ℕ) → l
     → record_at layout place bytes ≡ []
 no_record Log place records bytes size past = ap (take 16) (drop_all (16 * place) bytes (omega (arith, size, past)))
 no_record (Journal version) place records bytes size past = ap (take 32) (drop_all (32 * place) bytes (omega (arith, size, past)))
+no_record (Ledger One) place records bytes size past = ap (take 16) (drop_all (16 * place) bytes (omega (arith, size, past)))
+no_record (Ledger Two) place records bytes size past = ap (take 32) (drop_all (32 * place) bytes (omega (arith, size, past)))
 
 pub none_is_zero : IsZero []
 none_is_zero = λ k d inside. absurd (let never : ⊥ = omega (arith, inside) in never)
@@ -121,10 +130,14 @@ one_count layout bytes kept other (inr ends) (inr other_ends) =
 some_records : (layout : Layout) (records : ℕ) → record_length layout ≡ record_length layout * records → records ≡ 1
 some_records Log records is = omega (arith, is)
 some_records (Journal version) records is = omega (arith, is)
+some_records (Ledger One) records is = omega (arith, is)
+some_records (Ledger Two) records is = omega (arith, is)
 
 one_record : (layout : Layout) → record_length layout * 1 ≡ record_length layout
 one_record Log = refl
 one_record (Journal version) = refl
+one_record (Ledger One) = refl
+one_record (Ledger Two) = refl
 
 -- where no record is used, nothing is kept
 pub blank_left : (layout : Layout) (records : ℕ) (bytes : List ℕ) → 1 ≤ records → length bytes ≡ record_length layout * records
@@ -253,6 +266,8 @@ foreign_seen layout records last kept gated bytes size used counted found front 
 pub empty_not_left : (layout : Layout) (bytes : List ℕ) → length bytes ≡ 0 → ¬ IsLeftBy layout bytes
 empty_not_left Log bytes none left = omega (arith, none, left.whole.1, left.whole.2)
 empty_not_left (Journal version) bytes none left = omega (arith, none, left.whole.1, left.whole.2)
+empty_not_left (Ledger One) bytes none left = omega (arith, none, left.whole.1, left.whole.2)
+empty_not_left (Ledger Two) bytes none left = omega (arith, none, left.whole.1, left.whole.2)
 
 pub some_bytes : (size : ℕ) → size ≢ 0 → 0 < size
 some_bytes size some = omega (arith, some)
@@ -260,6 +275,8 @@ some_bytes size some = omega (arith, some)
 pub cut_not_whole : (layout : Layout) (size n : ℕ) → n ≡ record_length layout → size % n ≢ 0 → ¬ IsWhole layout size
 cut_not_whole Log size n is cut whole = cut (subst (λ (m : ℕ). size % m ≡ 0) (sym is) (omega (arith, whole.2)))
 cut_not_whole (Journal version) size n is cut whole = cut (subst (λ (m : ℕ). size % m ≡ 0) (sym is) (omega (arith, whole.2)))
+cut_not_whole (Ledger One) size n is cut whole = cut (subst (λ (m : ℕ). size % m ≡ 0) (sym is) (omega (arith, whole.2)))
+cut_not_whole (Ledger Two) size n is cut whole = cut (subst (λ (m : ℕ). size % m ≡ 0) (sym is) (omega (arith, whole.2)))
 
 pub size_not_left : (layout : Layout) (size : ℕ) (bytes : List ℕ) → length bytes ≡ size → ¬ IsWhole layout size → ¬ IsLeftBy layout bytes
 size_not_left layout size bytes is not_whole left = not_whole (subst (λ (n : ℕ). IsWhole layout n) is left.whole)

@@ -1,4 +1,5 @@
 mod CopiedJournal
+mod CopiedLedger
 mod LeftDisks
 mod Fronts
 mod GrownFiles

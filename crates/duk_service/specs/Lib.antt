@@ -1,4 +1,5 @@
 pub mod CopyJournal
+pub mod CopyLedger
 pub mod FileEnd
 pub mod Files
 pub mod GrowJournal

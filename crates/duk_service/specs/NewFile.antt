@@ -1,16 +1,20 @@
--- What `new-log` and `new-journal` make (this project's own).
+-- What `new-log`, `new-journal` and `new-ledger` make (this project's own).
 use Rattle.std.specs.Prelude.{⊤, ◌≢◌, ◌≡◌, ◌≤◌, ◌+◌, ◌*◌, ◌⊎◌, ℕ, List, [], codes}
 use Rattle.duk_commands.specs.Decimal.{IsDecimal}
-use Rattle.duk_journal_copy.specs.Blank.{IsBlankWritten, IsJournalBegun}
+use Rattle.duk_journal_copy.specs.Blank.{IsBlankWritten, IsFileBegun, IsJournalBegun}
 use Rattle.duk_journal_copy.specs.InPart.{IsNoJournal}
 use Rattle.duk_journal.specs.DiskJournal.{IsFreshJournalDisk}
 use Rattle.duk_journal.specs.Groups.{Entries, KeepsChecked}
 use Rattle.duk_journal.specs.RecordFormat.{IsJournalSize}
+use Rattle.duk_ledger.specs.Issued.{Issues}
+use Rattle.duk_ledger.specs.IssuedFormat.{ledger_kind}
+use Rattle.duk_ledger.specs.Ledger.{IsFreshLedgerDisk, KeepsIssues}
 use Rattle.duk_service.specs.LogFiles.{IsDisk, IsFolderSynced, IsFolderUnsynced, IsNoDisk, MakingKnown}
+use Rattle.duk_service.specs.OwnFiles.{BeginAsNone}
 use Rattle.duk_service.specs.declared.left_records.RecordFormat.{RecordFormat}
 use Rattle.duk_service.specs.declared.left_records.RecordFormat.TheVariants as kind
 use Rattle.duk_service.specs.declared.new_file.NewFile.{NewFile}
-use Rattle.duk_service.specs.declared.new_file.NewFile.TheVariants.{Journal, Log}
+use Rattle.duk_service.specs.declared.new_file.NewFile.TheVariants.{Journal, Ledger, Log}
 use Rattle.duk_service.specs.declared.new_file.NewFileFault.{NewFileFault}
 use Rattle.duk_service.specs.declared.new_file.NewFileFault.TheVariants as fault
 use Rattle.duk_store.specs.Disk.{DiskMeaning, DiskState, HasFailed}
@@ -21,30 +25,35 @@ use Rattle.duk_store.specs.declared.fault.StoreFault.TheVariants.{Device}
 abbrev pub format_of : NewFile → RecordFormat
 format_of Log = kind.Log
 format_of (Journal identity) = kind.Journal
+format_of (Ledger identity) = kind.Ledger
 
--- the most records of which a log or a journal may be made
+-- the most records of which a log, a journal or a ledger may be made
 abbrev pub most_records : ℕ
 most_records = 1000000000
 
--- a text that says for how many numbers or entries there is room: a decimal number of 1 to 1000000000
+-- a text that says for how many numbers, entries or issues there is room: a decimal number of 1 to 1000000000
 pub record IsRecordCount (text : List ℕ) (records : ℕ) : Type 0 where
   pub decimal : IsDecimal most_records text records
   pub some : 1 ≤ records
 
--- the bytes of a log or a journal with room for so many: in front of a journal's stands a header
+-- the bytes of a log, a journal or a ledger with room for so many: in front of the last two stands a
+-- header
 abbrev pub file_size : NewFile → ℕ → ℕ
 file_size Log records = 16 * records
 file_size (Journal identity) records = 32 * (1 + records)
+file_size (Ledger identity) records = 32 * (1 + records)
 
 -- what is written over all of a disk: zeros, or a header and zeros
 abbrev pub IsWrittenAnew : NewFile → DiskState → DiskState → Type 0
 IsWrittenAnew Log made last = IsBlankWritten made last
 IsWrittenAnew (Journal identity) made last = IsJournalBegun identity made last
+IsWrittenAnew (Ledger identity) made last = IsFileBegun ledger_kind identity made last
 
--- a disk on which a log keeps nothing, or a journal
+-- a disk on which a log keeps nothing, or a journal, or a ledger
 abbrev pub KeepsNothingYet : NewFile → DiskState → Type 0
 KeepsNothingYet Log disk = IsZeroLogDisk disk
 KeepsNothingYet (Journal identity) disk = IsFreshJournalDisk identity disk
+KeepsNothingYet (Ledger identity) disk = IsFreshLedgerDisk identity disk
 
 -- a file of this size is made, its disk is written anew and synced, and its folder is synced; where the
 -- disk is honest, nothing is kept there
@@ -58,7 +67,7 @@ pub record IsBlankMade (new : NewFile) {D : Type 0} (meaning : DiskMeaning D)
   pub blank : (meaning.state_of made).honest → KeepsNothingYet new (meaning.state_of last)
   pub folder : IsFolderSynced known.folder
 
--- what `new-log` and `new-journal` make
+-- what `new-log`, `new-journal` and `new-ledger` make
 pub record HasMadeFile (new : NewFile) {D : Type 0} (meaning : DiskMeaning D)
     (known : MakingKnown D) (text : List ℕ) : Type 0 where
   pub records : ℕ
@@ -72,11 +81,26 @@ IsNoneOrWhole entries made last =
     made.honest → IsJournalSize made.size → (bytes : List ℕ) → last.may_leave bytes
     → IsNoJournal bytes ⊎ KeepsChecked bytes entries
 
+-- bytes are those of no ledger of either version: they keep no issues, and not none either, and their
+-- first record is neither a header nor such as a ledger in the form of a log begins with
+pub record IsNoLedger (bytes : List ℕ) : Type 0 where
+  pub keeps_none : (issues : Issues) → ¬ KeepsIssues bytes issues
+  pub begins_none : BeginAsNone kind.Ledger bytes
+
+-- a ledger that keeps nothing was to be written over a disk that was made for it: whenever that is
+-- stopped, what is left of it is no ledger of either version, or is so
+abbrev pub IsNoLedgerOrNew : DiskState → DiskState → Type 0
+IsNoLedgerOrNew made last =
+    made.honest → IsJournalSize made.size → (bytes : List ℕ) → last.may_leave bytes
+    → IsNoLedger bytes ⊎ KeepsIssues bytes []
+
 -- what may be left of a disk that is made in part: of a journal's no journal, or one that keeps
--- nothing. A log's is zeros from its making on, which zeros are written over: nothing is said of it
+-- nothing, and of a ledger's likewise. A log's is zeros from its making on, which zeros are written
+-- over: nothing is said of it
 abbrev pub IsLeftInPart : NewFile → DiskState → DiskState → Type 0
 IsLeftInPart Log made last = ⊤
 IsLeftInPart (Journal identity) made last = IsNoneOrWhole [] made last
+IsLeftInPart (Ledger identity) made last = IsNoLedgerOrNew made last
 
 -- a file is made, and has another size, or a step of it failed, or its folder cannot be synced; what
 -- may be left of it is as this says of its disk, as it was made and as it was last
@@ -96,7 +120,7 @@ abbrev pub IsUnmade : {D : Type 0} → DiskMeaning D → MakingKnown D → ℕ
 IsUnmade meaning known size left =
     IsNoDisk (known.disk size) ⊎ IsMadeInPart meaning known size left
 
--- a log or a journal of so many records as a text says is not made
+-- a log, a journal or a ledger of so many records as a text says is not made
 pub record IsFileUnmade (new : NewFile) {D : Type 0} (meaning : DiskMeaning D)
     (known : MakingKnown D) (text : List ℕ) : Type 0 where
   pub records : ℕ
@@ -117,4 +141,5 @@ abbrev pub new_file_line : RecordFormat → NewFileFault → List ℕ
 new_file_line format fault.RecordsRefused = codes "records refused\n"
 new_file_line kind.Log fault.Unmade = codes "log: cannot make\n"
 new_file_line kind.Journal fault.Unmade = codes "journal: cannot make\n"
+new_file_line kind.Ledger fault.Unmade = codes "ledger: cannot make\n"
 new_file_line format fault.OutOfMemory = codes "out of memory\n"

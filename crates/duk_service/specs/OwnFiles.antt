@@ -1,14 +1,14 @@
--- The ways to open the file of a log or a journal (this project's own).
+-- The ways to open the file of a log, a journal or a ledger (this project's own).
 use Rattle.std.specs.Prelude.{◌≡◌, ◌⊎◌, List, None, Option, Some, ℕ}
 use Rattle.duk_journal_copy.specs.declared.version.Version.{Version}
 use Rattle.duk_journal_copy.specs.declared.version.Version.TheVariants.{One, Two}
 use Rattle.duk_service.specs.declared.reason.Strange.{Strange}
 use Rattle.duk_service.specs.declared.reason.Strange.TheVariants as strange
-use Rattle.duk_service.specs.LeftRecords.{HasFront, IsCut, IsForeignAt, IsLeftBy, layout_of}
+use Rattle.duk_service.specs.LeftRecords.{HasFront, IsCut, IsForeignAt, IsLeftBy, layout_in, layout_of}
 use Rattle.duk_service.specs.LogFiles.{DiskKnown, IsDisk, IsNoDisk}
 use Rattle.duk_service.specs.declared.left_records.Layout.TheVariants as layout
 use Rattle.duk_service.specs.declared.left_records.RecordFormat.{RecordFormat}
-use Rattle.duk_service.specs.declared.left_records.RecordFormat.TheVariants.{Journal, Log}
+use Rattle.duk_service.specs.declared.left_records.RecordFormat.TheVariants.{Journal, Ledger, Log}
 use Rattle.duk_service.specs.declared.own_files.OpenFault.{OpenFault}
 use Rattle.duk_service.specs.declared.own_files.OpenFault.TheVariants as fault
 use Rattle.duk_store.specs.Disk.{DiskMeaning, DiskState, HasFailed, PreservesBytes, PreservesDisk, StaysArmed}
@@ -51,9 +51,18 @@ IsNoJournalDisk {D} meaning known fault.Foreign =
     → ¬ IsJournalOf version new.reads) disk
 IsNoJournalDisk meaning known fault.OldVersion = ⊥
 
--- ---- those of a service
+-- ---- ledgers of either version
 
--- bytes are such as a log leaves, or a journal of version 2
+-- bytes are such as a ledger of a version leaves. Those that one of version 2 does are none of version 1,
+-- which has the form of a log
+abbrev pub IsLedgerOf : Version → List ℕ → Type 0
+IsLedgerOf One bytes =
+    (¬ IsLeftBy (layout.Ledger Two) bytes) × IsLeftBy (layout.Ledger One) bytes
+IsLedgerOf Two bytes = IsLeftBy (layout.Ledger Two) bytes
+
+-- ---- those that are written
+
+-- bytes are such as a log leaves, or a journal or a ledger of version 2
 abbrev pub IsOwn : RecordFormat → List ℕ → Type 0
 IsOwn format bytes = IsLeftBy (layout_of format) bytes
 
@@ -69,6 +78,7 @@ IsNotOwn format old new fault.Failed = HasFailed old new Device
 IsNotOwn format old new fault.Foreign = new.honest → ¬ IsOwn format new.reads
 IsNotOwn Log old new fault.OldVersion = ⊥
 IsNotOwn Journal old new fault.OldVersion = new.honest → IsJournalOf One new.reads
+IsNotOwn Ledger old new fault.OldVersion = new.honest → IsLedgerOf One new.reads
 
 -- why none is opened; nothing is written then
 abbrev pub IsNoOwnDisk : RecordFormat → {D : Type 0} → DiskMeaning D → DiskKnown D → OpenFault
@@ -79,29 +89,28 @@ IsNoOwnDisk format {D} meaning known why =
 
 -- ---- what a file is seen to be
 
--- bytes are such as a log leaves, or a journal of either version
+-- bytes are such as a log leaves, or a journal or a ledger of either version
 abbrev pub IsEither : RecordFormat → List ℕ → Type 0
 IsEither Log bytes = IsOwn Log bytes
 IsEither Journal bytes = (version : Version) × IsJournalOf version bytes
+IsEither Ledger bytes = (version : Version) × IsLedgerOf version bytes
 
 -- they are not, and the record at this place is neither open nor zero, and all behind it are zeros
 abbrev pub IsStrangeAt : RecordFormat → ℕ → List ℕ → Type 0
-IsStrangeAt Log place bytes = IsForeignAt layout.Log place bytes
-IsStrangeAt Journal place bytes = IsForeignAt (layout.Journal Two) place bytes
-    ⊎ ((¬ HasFront (layout.Journal Two) bytes) × IsForeignAt (layout.Journal One) place bytes)
+IsStrangeAt format place bytes = IsForeignAt (layout_in format Two) place bytes
+    ⊎ ((¬ HasFront (layout_in format Two) bytes) × IsForeignAt (layout_in format One) place bytes)
 
--- what a disk is seen to be that is that of no log or journal
+-- what a disk is seen to be that is that of no log, journal or ledger
 abbrev pub IsStrange : RecordFormat → DiskState → Strange → Type 0
 IsStrange format disk strange.Empty = disk.size ≡ 0
 IsStrange format disk (strange.Record place) = disk.honest → IsStrangeAt format place disk.reads
 
--- bytes begin as no journal does
+-- bytes begin as no version does
 abbrev pub BeginAsNone : RecordFormat → List ℕ → Type 0
-BeginAsNone Log bytes = ⊥
-BeginAsNone Journal bytes = (version : Version) → ¬ HasFront (layout.Journal version) bytes
+BeginAsNone format bytes = (version : Version) → ¬ HasFront (layout_in format version) bytes
 
 -- it is not: a step of it failed, or its bytes are not whole records, or begin as those of none, or are
--- such as a log or a journal leaves
+-- such as a log, a journal or a ledger leaves
 abbrev pub IsNotStrange : RecordFormat → DiskState → DiskState → Type 0
 IsNotStrange format old new =
     HasFailed old new Device ⊎ IsCut (layout_of format) new.size

@@ -1,4 +1,5 @@
 pub mod CopyJournal
+pub mod CopyLedger
 pub mod GrowJournal
 pub mod LeftRecords
 pub mod NewFile

@@ -1,14 +1,16 @@
-//! Whether the bytes of a disk are such as a log or a journal of ours leaves in its file.
+//! Whether the bytes of a disk are such as a log, a journal or a ledger of ours leaves in its file.
 
 ghost use Rattle.std.specs.Prelude.{◌≡◌, ◌+◌, ◌*◌, ◌<◌, ◌≤◌, ◌^◌, ◌↔◌, ℕ, IsFalse, IsTrue, IfErr, IfOk, OnOk, length};
 ghost use Rattle.duk_store.specs.Disk.{HasFailed, PreservesBytes, PreservesDisk, StaysArmed};
 ghost use Rattle.duk_journal_copy.specs.declared.version.Version.TheVariants.{Two as VersionTwo};
-ghost use Rattle.duk_service.specs.LeftRecords.{HasFront, IsFront, layout_of, most_of_group, record_length};
+ghost use Rattle.duk_service.specs.declared.left_records.Layout.TheVariants.{Ledger as LedgerLayout};
+ghost use Rattle.duk_service.specs.LeftRecords.{HasFront, IsFront, IsLedgerFront, layout_in, most_of_group, record_length};
 ghost use Rattle.duk_service.specs.inner.GrowJournal.{IsPartSeen};
 ghost use Rattle.duk_service.specs.inner.LeftRecords.{AreFollowersRead, AreKeptCounted, HasMark, IsBefore, IsFrontSeen, IsLastIn, IsLastOn, IsSeen, LacksMark, MayStand};
 
 use duk_journal::{OPEN, RECORD_LENGTH, contents_of_record, is_journal_header};
 use duk_journal_copy::Version;
+use duk_ledger::is_ledger_header;
 use duk_store::{Disk, StoreFault};
 
 /// The bytes of a piece, of which a disk is read at once.
@@ -17,20 +19,23 @@ const PIECE_LENGTH: usize = 65_536;
 /// What a file of records is of.
 #[derive(Clone, Copy, Debug, PartialEq, Eq)]
 pub enum RecordFormat {
-    /// A log of numbers, or a ledger.
+    /// A log of numbers.
     Log,
     /// A journal.
     Journal,
+    /// A ledger.
+    Ledger,
 }
 
 impl RecordFormat {
-    /// How the files that are written are laid out.
-    pub(crate) fn layout(self) -> Layout
-        ensures { result ≡ layout_of self }
+    /// How the files of a version are laid out. Those of version 2 are written.
+    pub(crate) fn layout_in(self, version: Version) -> Layout
+        ensures { result ≡ layout_in self version }
     {
         match self {
             RecordFormat::Log => Layout::Log,
-            RecordFormat::Journal => Layout::Journal(Version::Two),
+            RecordFormat::Journal => Layout::Journal(version),
+            RecordFormat::Ledger => Layout::Ledger(version),
         }
     }
 }
@@ -43,6 +48,10 @@ pub enum Layout {
     /// Those of a journal of a version: records of 32 bytes, in groups of at most 4,096. In version 2
     /// a header stands in front of them.
     Journal(Version),
+    /// Those of a ledger of a version, each a group by itself: in version 1 they are those of a log, of
+    /// which an open one has a number; in version 2 they have 32 bytes, and a header stands in front of
+    /// them.
+    Ledger(Version),
 }
 
 impl Layout {
@@ -51,8 +60,8 @@ impl Layout {
         ensures { result ≡ record_length self }
     {
         match self {
-            Layout::Log => 16,
-            Layout::Journal(_) => 32,
+            Layout::Log | Layout::Ledger(Version::One) => 16,
+            Layout::Journal(_) | Layout::Ledger(Version::Two) => 32,
         }
     }
 
@@ -61,8 +70,8 @@ impl Layout {
         ensures { record_length self * result ≡ 65536 }
     {
         match self {
-            Layout::Log => 4096,
-            Layout::Journal(_) => 2048,
+            Layout::Log | Layout::Ledger(Version::One) => 4096,
+            Layout::Journal(_) | Layout::Ledger(Version::Two) => 2048,
         }
     }
 
@@ -71,7 +80,7 @@ impl Layout {
         ensures { result ≡ most_of_group self }
     {
         match self {
-            Layout::Log => 1,
+            Layout::Log | Layout::Ledger(_) => 1,
             Layout::Journal(_) => 4096,
         }
     }
@@ -106,7 +115,7 @@ impl Mark {
 /// What the bytes of a disk are seen to be.
 #[derive(Clone, Copy)]
 pub enum Seen {
-    /// Such as a log or a journal leaves.
+    /// Such as a file of the layout is left.
     Left,
     /// None at all.
     Empty,
@@ -114,11 +123,11 @@ pub enum Seen {
     Cut,
     /// Whole records, of which the first is not such as the layout begins with.
     OtherFront,
-    /// Such as neither leaves: the record at this place, from 0, is neither open nor zero.
+    /// Such as none is left: the record at this place, from 0, is neither open nor zero.
     Foreign(u64),
 }
 
-/// Looks whether the bytes of a disk are such as a log or a journal leaves. All behind the last open
+/// Looks whether the bytes of a disk are such as a log, a journal or a ledger leaves. All behind the last open
 /// record is read, from the end on, and little before it.
 ///
 /// Refused with `Device` where a device step failed.
@@ -165,6 +174,12 @@ pub(crate) fn has_front<D: Disk>(disk: &mut D, layout: Layout) -> Result<bool, S
             disk.read_at(0, &mut first)?;
             Ok(is_front(version, &first))
         }
+        Layout::Ledger(version) => {
+            let mut bytes = [0; RECORD_LENGTH];
+            let first = &mut bytes[..layout.record_length()];
+            disk.read_at(0, first)?;
+            Ok(is_ledger_front(version, first))
+        }
     }
 }
 
@@ -177,6 +192,18 @@ fn is_front(version: Version, first: &[u8]) -> bool
     match version {
         Version::One => first[0] != OPEN || contents_of_record(first).is_some(),
         Version::Two => is_journal_header(first),
+    }
+}
+
+/// Whether the first record of a ledger of a version is such: in version 2 it is a header; in version 1
+/// it is closed, or has a number.
+fn is_ledger_front(version: Version, first: &[u8]) -> bool
+    requires { length first.now ≡ record_length (LedgerLayout version) }
+    ensures { IsTrue result ↔ IsLedgerFront version first.now }
+{
+    match version {
+        Version::One => first[0] != OPEN || first[11..].iter().all(|byte| *byte == 0),
+        Version::Two => is_ledger_header(first),
     }
 }
 
@@ -263,7 +290,7 @@ fn read_followers<D: Disk>(disk: &mut D, layout: Layout, place: u64) -> Result<u
         (HasFailed (D.meaning.state_of disk.old) (D.meaning.state_of disk.new)) }
 {
     match layout {
-        Layout::Log => Ok(0),
+        Layout::Log | Layout::Ledger(_) => Ok(0),
         Layout::Journal(version) => {
             if is_header(version, place) {
                 return Ok(0);

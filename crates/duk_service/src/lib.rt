@@ -3,6 +3,7 @@
 #![tactic(auto)]
 
 pub mod copy_journal;
+pub mod copy_ledger;
 mod file_end;
 mod file_system;
 pub mod grow_journal;

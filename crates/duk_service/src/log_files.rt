@@ -94,7 +94,7 @@ pub trait LogFiles {
     ghost making: { Self → List ℕ → MakingKnown Self.Disk };
 
     /// The disk over a new file of so many bytes under a path, locked. It begins as that of no
-    /// journal, however soon its writer is stopped.
+    /// journal and no ledger, of whichever version, however soon its writer is stopped.
     ///
     /// Refused with `Device` where no file can be made. One that is there is never opened.
     fn make_disk(&self, path: &str, size: u64) -> Result<Self::Disk, StoreFault>

@@ -1,4 +1,4 @@
-//! The commands `new-log` and `new-journal`.
+//! The commands `new-log`, `new-journal` and `new-ledger`.
 
 ghost use Rattle.std.specs.Prelude.{◌≡◌, ◌≤◌, ◌*◌, ℕ, IfErr, IfOk, IfSome, IfNone, OnErr, OnOk, replicate};
 ghost use Rattle.duk_service.specs.LogFiles.{IsDisk, IsNoDisk};
@@ -9,7 +9,8 @@ ghost use Rattle.duk_store.specs.Disk.{HasFailed};
 use crate::left_records::RecordFormat;
 use crate::log_files::LogFiles;
 use duk_commands::read_decimal;
-use duk_journal_copy::{PIECE_LENGTH, write_blank, write_journal};
+use duk_journal_copy::{PIECE_LENGTH, begin_file, write_blank, write_journal};
+use duk_ledger::LEDGER_KIND;
 use duk_store::{Disk, StoreFault};
 use std::alloc::{AllocError, Global};
 
@@ -23,9 +24,14 @@ pub enum NewFile {
         /// Its identity, which is drawn at random.
         identity: u64,
     },
+    /// A ledger.
+    Ledger {
+        /// Its identity, which is drawn at random.
+        identity: u64,
+    },
 }
 
-/// The most records of which a log or a journal may be made.
+/// The most records of which a log, a journal or a ledger may be made.
 const MOST_RECORDS: u32 = 1_000_000_000;
 
 impl NewFile {
@@ -36,11 +42,12 @@ impl NewFile {
         match self {
             NewFile::Log => RecordFormat::Log,
             NewFile::Journal { .. } => RecordFormat::Journal,
+            NewFile::Ledger { .. } => RecordFormat::Ledger,
         }
     }
 }
 
-/// Why no log or journal is made.
+/// Why no log, journal or ledger is made.
 #[derive(Clone, Copy, Debug, PartialEq, Eq)]
 pub enum NewFileFault {
     /// RECORDS is no number of records of which one may be made.
@@ -71,17 +78,20 @@ impl NewFileFault {
             NewFileFault::Unmade => match format {
                 RecordFormat::Log => "log: cannot make\n",
                 RecordFormat::Journal => "journal: cannot make\n",
+                RecordFormat::Ledger => "ledger: cannot make\n",
             },
             NewFileFault::OutOfMemory => "out of memory\n",
         }
     }
 }
 
-/// Makes the file of a log or a journal with room for so many numbers or entries as a text says. In
-/// front of a journal's stands a header. Memory is asked for before the file is made.
+/// Makes the file of a log, a journal or a ledger with room for so many numbers, entries or issues as a
+/// text says. In front of those of a journal and of a ledger stands a header. Memory is asked for
+/// before the file is made.
 ///
-/// The faults, in this order: `records refused`; `out of memory`; `log: cannot make`, or
-/// `journal: cannot make`. A file that was made and cannot be kept is removed again, if it can be.
+/// The faults, in this order: `records refused`; `out of memory`; `log: cannot make`, `journal: cannot
+/// make`, or `ledger: cannot make`. A file that was made and cannot be kept is removed again, if it can
+/// be.
 pub fn new_file<S: LogFiles>(
     alloc: Global,
     files: &S,
@@ -118,13 +128,13 @@ pub(crate) fn read_records(text: &str) -> Option<u32>
     Some(records)
 }
 
-/// The bytes of a log or a journal with room for so many.
+/// The bytes of a log, a journal or a ledger with room for so many.
 fn size_of(new: NewFile, records: u32) -> u64
     ensures { result ≡ file_size new records }
 {
     match new {
         NewFile::Log => 16 * u64::from(records),
-        NewFile::Journal { .. } => 32 * (1 + u64::from(records)),
+        NewFile::Journal { .. } | NewFile::Ledger { .. } => 32 * (1 + u64::from(records)),
     }
 }
 
@@ -145,7 +155,7 @@ fn make_blank<S: LogFiles>(
     ensures refused { OnErr result
         (IsUnmade S.Disk.meaning (S.making files.now file.now) size (IsLeftInPart new)) }
 {
-    let mut disk = begin_file(files, new, file, size)?;
+    let mut disk = make_begun(files, new, file, size)?;
     match keep_blank(files, new, file, size, zeros, &mut disk) {
         Ok(()) => Ok(()),
         Err(why) => {
@@ -155,8 +165,9 @@ fn make_blank<S: LogFiles>(
     }
 }
 
-/// Makes a file of so many bytes: for a journal one that begins as none, for a log one of zeros.
-fn begin_file<S: LogFiles>(
+/// Makes a file of so many bytes: for a journal or a ledger one that begins as none, for a log one of
+/// zeros.
+fn make_begun<S: LogFiles>(
     files: &S,
     new: NewFile,
     file: &str,
@@ -169,7 +180,7 @@ fn begin_file<S: LogFiles>(
 {
     match new {
         NewFile::Log => files.make_zeros(file, size),
-        NewFile::Journal { .. } => files.make_disk(file, size),
+        NewFile::Journal { .. } | NewFile::Ledger { .. } => files.make_disk(file, size),
     }
 }
 
@@ -195,6 +206,9 @@ fn keep_blank<S: LogFiles>(
         (S.Disk.meaning.state_of disk.old) (S.Disk.meaning.state_of disk.new) }
 {
     duk_journal_copy::laws::unfinished();
+    duk_journal_copy::laws::unheaded();
+    duk_journal_copy::laws::unnumbered();
+    duk_journal::laws::headers();
     if disk.size() != size {
         return Err(StoreFault::Device);
     }
@@ -213,8 +227,12 @@ fn write_anew<D: Disk>(new: NewFile, disk: &mut D, zeros: &[u8]) -> Result<(), S
         (HasFailed (D.meaning.state_of disk.old) (D.meaning.state_of disk.new)) }
     ensures left { IsLeftInPart new (D.meaning.state_of disk.old) (D.meaning.state_of disk.new) }
 {
+    duk_journal_copy::laws::unheaded();
+    duk_journal_copy::laws::unnumbered();
+    duk_journal_copy::laws::begun();
     match new {
         NewFile::Log => write_blank(disk, zeros),
         NewFile::Journal { identity } => write_journal(disk, identity, zeros),
+        NewFile::Ledger { identity } => begin_file(disk, LEDGER_KIND, identity, zeros),
     }
 }

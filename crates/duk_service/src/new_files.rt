@@ -63,7 +63,7 @@ fn disk_over(file: File, size: u64) -> FileDisk {
 /// How the bytes of a new file begin.
 #[derive(Clone, Copy)]
 pub(crate) enum Begin {
-    /// As those of no journal.
+    /// As those of no journal, no ledger and no log.
     Unfinished,
     /// With zeros, as all of them are: a log that keeps nothing.
     Zeros,
@@ -98,13 +98,20 @@ pub(crate) fn open_new<R: Files<File = File>>(files: &R, path: &str) -> io::Resu
         .open(files, path)
 }
 
-/// Locks a new file, and gives it so many bytes, which are synced. The first byte of an unfinished one
-/// is 1, and on the medium before there are more, which are zeros: a file that begins so is no journal
-/// (`duk_journal_copy::laws::unfinished`), however soon its writer is stopped.
+/// The first bytes of an unfinished file. The first of them opens a record, and the 16th is that of a
+/// header, where the record of a log has a zero behind its number: a file that begins so is no journal
+/// (`duk_journal_copy::laws::unfinished`), has no header (`unheaded`), and is no log (`unnumbered`).
+/// The last of them makes them one more than a record of a log, so that a file of these alone has no
+/// whole records.
+const UNFINISHED: [u8; 17] = [1, 0, 0, 0, 0, 0, 0, 0, 0, 0, 0, 0, 0, 0, 0, 32, 0];
+
+/// Locks a new file, and gives it so many bytes, which are synced. The first bytes of an unfinished one
+/// are written at once, and are on the medium before there are more, which are zeros. So it is no file
+/// of ours, however soon its writer is stopped.
 fn lock_sized(file: &File, size: u64, begin: Begin) -> io::Result<()> {
     file.try_lock()?;
     if let Begin::Unfinished = begin {
-        file.write_all_at(&[1], 0)?;
+        file.write_all_at(&UNFINISHED, 0)?;
         file.sync_data()?;
     }
     file.set_len(size)?;

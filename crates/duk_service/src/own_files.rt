@@ -1,13 +1,13 @@
-//! Opens the file of a log or a journal, unless its bytes are such as neither leaves.
+//! Opens the file of a log, a journal or a ledger, unless its bytes are such as that never leaves.
 //!
 //! A log that is brought up takes records of which none is open for one that keeps nothing, whatever
-//! they are, and a journal does too. So a key or a configuration, named by mistake, would be written
+//! they are, and a journal and a ledger do too. So a key or a configuration, named by mistake, would be written
 //! over, or copied as a journal without entries. Before anything is done the bytes are looked at here.
 
-ghost use Rattle.std.specs.Prelude.{IfErr, IfOk, MatchOption, OnErr};
+ghost use Rattle.std.specs.Prelude.{◌≡◌, IfErr, IfOk, MatchOption, OnErr};
 ghost use Rattle.duk_service.specs.LogFiles.{IsDisk, IsNoDisk, MayOpen};
 ghost use Rattle.duk_service.specs.OwnFiles.{IsJournalDisk, IsLookedAt, IsNoJournalDisk, IsNoOwnDisk, IsNotOwn, IsOnlyRead, IsOwn, IsOwnDisk};
-ghost use Rattle.duk_service.specs.inner.OwnFiles.{IsEitherSeen, IsVersionSeen};
+ghost use Rattle.duk_service.specs.inner.OwnFiles.{IsEitherSeen, IsLedgerSeen, IsVersionSeen, version_fault};
 ghost use Rattle.duk_store.specs.Disk.{HasFailed};
 
 use crate::left_records::{Layout, RecordFormat, Seen, look_at};
@@ -16,21 +16,21 @@ use crate::reason::Strange;
 use duk_journal_copy::Version;
 use duk_store::{Disk, StoreFault};
 
-/// Why the file of a log or a journal is not opened.
+/// Why the file of a log, a journal or a ledger is not opened.
 #[derive(Clone, Copy, Debug, PartialEq, Eq)]
 pub enum OpenFault {
     /// It cannot be opened, or another uses it.
     Unopened,
     /// A device step of it failed.
     Failed,
-    /// Its bytes are none that a log or a journal leaves.
+    /// Its bytes are none that such a file has.
     Foreign,
-    /// They are such as a journal of version 1 leaves, which is copied first.
+    /// They are those of a journal or a ledger of version 1, which is copied first.
     OldVersion,
 }
 
-/// The disk over the file under a path, whose bytes a log or a journal left. It is read, and not
-/// written.
+/// The disk over the file under a path, whose bytes a log, a journal or a ledger left. It is read, and
+/// not written.
 ///
 /// The faults are looked for in their order.
 pub fn open_own<S: LogFiles>(
@@ -53,7 +53,7 @@ pub fn open_own<S: LogFiles>(
     }
 }
 
-/// Why a disk is not opened as that of a log or a journal. It is read alone.
+/// Why a disk is not opened as that of a log, a journal or a ledger. It is read alone.
 fn fault_in<D: Disk>(disk: &mut D, format: RecordFormat) -> Option<OpenFault>
     ensures own { MatchOption result
         ((D.meaning.state_of disk.new).honest → IsOwn format (D.meaning.state_of disk.new).reads)
@@ -66,12 +66,20 @@ fn fault_in<D: Disk>(disk: &mut D, format: RecordFormat) -> Option<OpenFault>
             Ok(_) => Some(OpenFault::Foreign),
             Err(_) => Some(OpenFault::Failed),
         },
-        RecordFormat::Journal => match version_of(disk) {
-            Ok(Some(Version::Two)) => None,
-            Ok(Some(Version::One)) => Some(OpenFault::OldVersion),
-            Ok(None) => Some(OpenFault::Foreign),
-            Err(_) => Some(OpenFault::Failed),
-        },
+        RecordFormat::Journal => version_fault(version_of(disk)),
+        RecordFormat::Ledger => version_fault(ledger_version_of(disk)),
+    }
+}
+
+/// Why the disk of a journal or a ledger is not opened, by the version that it is seen to be.
+fn version_fault(seen: Result<Option<Version>, StoreFault>) -> Option<OpenFault>
+    ensures { result ≡ version_fault seen }
+{
+    match seen {
+        Ok(Some(Version::Two)) => None,
+        Ok(Some(Version::One)) => Some(OpenFault::OldVersion),
+        Ok(None) => Some(OpenFault::Foreign),
+        Err(_) => Some(OpenFault::Failed),
     }
 }
 
@@ -91,6 +99,25 @@ pub(crate) fn version_of<D: Disk>(disk: &mut D) -> Result<Option<Version>, Store
             _ => Ok(None),
         },
         _ => Ok(None),
+    }
+}
+
+/// The version of the ledger that left the bytes of a disk, where one did: a ledger in the form of a
+/// log is one of version 1.
+///
+/// Refused with `Device` where a device step failed.
+pub(crate) fn ledger_version_of<D: Disk>(disk: &mut D) -> Result<Option<Version>, StoreFault>
+    ensures version { IfOk result (IsLedgerSeen (D.meaning.state_of disk.new)) }
+    ensures only_read { IsOnlyRead (D.meaning.state_of disk.old) (D.meaning.state_of disk.new) }
+    ensures failed { IfErr result
+        (HasFailed (D.meaning.state_of disk.old) (D.meaning.state_of disk.new)) }
+{
+    match look_at(disk, Layout::Ledger(Version::Two))? {
+        Seen::Left => Ok(Some(Version::Two)),
+        _ => match look_at(disk, Layout::Ledger(Version::One))? {
+            Seen::Left => Ok(Some(Version::One)),
+            _ => Ok(None),
+        },
     }
 }
 
@@ -124,7 +151,11 @@ pub(crate) fn open_journal<S: LogFiles>(
 }
 
 /// The disk over the file under a path.
-fn open<S: LogFiles>(files: &S, path: &str, access: Access) -> Result<S::Disk, StoreFault>
+pub(crate) fn open<S: LogFiles>(
+    files: &S,
+    path: &str,
+    access: Access,
+) -> Result<S::Disk, StoreFault>
     requires { MayOpen (S.may_write files.now path.now) access }
     ensures opened { IfOk result (IsDisk (S.disks files.now path.now)) }
     ensures refused { OnErr result (IsNoDisk (S.disks files.now path.now)) }
@@ -135,7 +166,7 @@ fn open<S: LogFiles>(files: &S, path: &str, access: Access) -> Result<S::Disk, S
     }
 }
 
-/// What the file under a path is seen to be that is no log or no journal, of either version. None of
+/// What the file under a path is seen to be that is no log, journal or ledger, of any version. None of
 /// one that is, and of one that is not opened or read, or has not whole records.
 pub fn strange_in<S: LogFiles>(files: &S, path: &str, format: RecordFormat) -> Option<Strange>
     ensures { IsLookedAt format S.Disk.meaning (S.disks files.now path.now) result }
@@ -153,16 +184,16 @@ pub fn strange_in<S: LogFiles>(files: &S, path: &str, format: RecordFormat) -> O
     }
 }
 
-/// Looks at a disk as that of a log or a journal; at one without a header as that of a journal of
-/// version 1.
+/// Looks at a disk as that of a log, a journal or a ledger; at one without a header as that of version
+/// 1.
 fn look_at_either<D: Disk>(disk: &mut D, format: RecordFormat) -> Result<Seen, StoreFault>
     ensures seen { IfOk result (IsEitherSeen format (D.meaning.state_of disk.new)) }
     ensures only_read { IsOnlyRead (D.meaning.state_of disk.old) (D.meaning.state_of disk.new) }
     ensures failed { IfErr result
         (HasFailed (D.meaning.state_of disk.old) (D.meaning.state_of disk.new)) }
 {
-    match look_at(disk, format.layout())? {
-        Seen::OtherFront => look_at(disk, Layout::Journal(Version::One)),
+    match look_at(disk, format.layout_in(Version::Two))? {
+        Seen::OtherFront => look_at(disk, format.layout_in(Version::One)),
         seen => Ok(seen),
     }
 }

@@ -31,6 +31,9 @@ impl ServeFault {
             ServeFault::StoreAndAnswers(RecordFormat::Journal) => {
                 "journal: failed\nserve: write failed\n"
             }
+            ServeFault::StoreAndAnswers(RecordFormat::Ledger) => {
+                "ledger: failed\nserve: write failed\n"
+            }
         }
     }
 }
@@ -46,6 +49,9 @@ fn open_line(format: RecordFormat, why: OpenFault) -> &'static str
         (RecordFormat::Journal, OpenFault::Unopened) => "journal: cannot open\n",
         (RecordFormat::Journal, OpenFault::OldVersion) => "journal: version 1, use copy-journal\n",
         (RecordFormat::Journal, _) => "journal: failed\n",
+        (RecordFormat::Ledger, OpenFault::Unopened) => "ledger: cannot open\n",
+        (RecordFormat::Ledger, OpenFault::OldVersion) => "ledger: version 1, use copy-ledger\n",
+        (RecordFormat::Ledger, _) => "ledger: failed\n",
     }
 }
 
@@ -56,6 +62,7 @@ fn host_line(format: RecordFormat, why: HostFault) -> &'static str
 {
     match (format, why) {
         (RecordFormat::Journal, HostFault::Store(_) | HostFault::Stopped) => "journal: failed\n",
+        (RecordFormat::Ledger, HostFault::Store(_) | HostFault::Stopped) => "ledger: failed\n",
         (_, why) => log_host_line(why),
     }
 }

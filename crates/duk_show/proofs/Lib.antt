@@ -10,6 +10,7 @@ mod ImageStops
 mod JournalNumbers
 mod JournalRecords
 mod JournalTallies
+mod LedgerRecords
 mod LinesAppended
 mod LogRecords
 mod OneLog

@@ -5,7 +5,7 @@ use Rattle.duk_commands.specs.Fault.{line_end}
 use Rattle.duk_show.specs.FrameFault.{frame_fault_name}
 use Rattle.duk_show.specs.ImageFault.{image_fault_name}
 use Rattle.duk_show.specs.declared.fault.ShowFault.{ShowFault}
-use Rattle.duk_show.specs.declared.fault.ShowFault.TheVariants.{BdkRefused, BlockRefused, FrameRefused, ImageRefused, InitialRefused, JournalRefused, JournalTooLong, JournalUnread, KindRefused, KsnRefused, LogRefused, LogTooLong, LogUnread, OutOfMemory}
+use Rattle.duk_show.specs.declared.fault.ShowFault.TheVariants.{BdkRefused, BlockRefused, FrameRefused, ImageRefused, InitialRefused, JournalRefused, JournalTooLong, JournalUnread, KindRefused, KsnRefused, LedgerRefused, LedgerTooLong, LedgerUnread, LogRefused, LogTooLong, LogUnread, OutOfMemory}
 
 -- what is reported where the reading of a text of this kind stops: the place and the fault there
 abbrev pub stopped_text : List ℕ → ℕ → List ℕ → List ℕ
@@ -27,6 +27,9 @@ show_text (LogRefused place) = stopped_text (codes "log") place (codes "Damaged"
 show_text JournalUnread = codes "journal: cannot read"
 show_text JournalTooLong = codes "journal: too long"
 show_text (JournalRefused place) = stopped_text (codes "journal") place (codes "Damaged")
+show_text LedgerUnread = codes "ledger: cannot read"
+show_text LedgerTooLong = codes "ledger: too long"
+show_text (LedgerRefused place) = stopped_text (codes "ledger") place (codes "Damaged")
 show_text OutOfMemory = codes "out of memory"
 
 -- the line of a fault

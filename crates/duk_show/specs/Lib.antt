@@ -7,6 +7,7 @@ pub mod KeyNames
 pub mod Block
 pub mod ImageFault
 pub mod Image
+pub mod Ledger
 pub mod Log
 pub mod Stored
 pub mod Journal

@@ -4,6 +4,7 @@ pub mod Hexadecimal
 pub mod Image
 pub mod Journal
 pub mod JournalTallies
+pub mod Ledger
 pub mod Log
 pub mod OneLog
 pub mod Tallies

@@ -60,6 +60,15 @@ pub enum ShowFault {
         /// The first record that is in no journal.
         place: usize,
     },
+    /// The file of a ledger cannot be read.
+    LedgerUnread,
+    /// The file of a ledger is too long.
+    LedgerTooLong,
+    /// The bytes are not those of a ledger.
+    LedgerRefused {
+        /// The first record that is in no ledger.
+        place: usize,
+    },
     /// Memory was refused.
     OutOfMemory,
 }
@@ -83,6 +92,9 @@ impl ShowFault {
             ShowFault::JournalUnread => line_of("journal: cannot read"),
             ShowFault::JournalTooLong => line_of("journal: too long"),
             ShowFault::JournalRefused { place } => stopped_line("journal", place, "Damaged"),
+            ShowFault::LedgerUnread => line_of("ledger: cannot read"),
+            ShowFault::LedgerTooLong => line_of("ledger: too long"),
+            ShowFault::LedgerRefused { place } => stopped_line("ledger", place, "Damaged"),
             ShowFault::OutOfMemory => line_of("out of memory"),
         }
     }

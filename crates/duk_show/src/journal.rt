@@ -178,7 +178,7 @@ fn left_after(left: u16, followers: u16) -> u16
 }
 
 /// The first open record from this place on, where there is one.
-fn first_open(bytes: &[u8], from: usize) -> Option<usize>
+pub(crate) fn first_open(bytes: &[u8], from: usize) -> Option<usize>
     ensures { MatchOption result (AreClosedBetween from (length bytes.now / 32) bytes.now)
         (IsOpenAt from bytes.now) }
 {

@@ -18,7 +18,9 @@ any_written _ asked = tt
 any_made : (command : CommandName) (asked : Written) → MayMakeOwn (λ path. ⊤) command asked
 any_made name.NewLog asked = tt
 any_made name.NewJournal asked = tt
+any_made name.NewLedger asked = tt
 any_made name.CopyJournal asked = tt
+any_made name.CopyLedger asked = tt
 any_made name.Issue asked = all (value_in (codes "out") asked)
 any_made _ asked = tt
 

@@ -98,7 +98,7 @@ fn counting_of(request: &Request<'_>) -> Counting {
 
 /// Whether `show` prints the records of a file of this kind.
 fn is_of_records(kind: &str) -> bool {
-    kind == "log" || kind == "journal"
+    kind == "log" || kind == "journal" || kind == "ledger"
 }
 
 /// The word of the command: the first that is no option.

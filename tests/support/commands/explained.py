@@ -35,6 +35,7 @@ PAIRS = "pairs of hexadecimal digits"
 READABLE = "a file that can be read"
 A_LOG = "a log, as new-log makes one, that no other uses"
 A_JOURNAL = "a journal, as new-journal makes one, that no other uses"
+A_LEDGER = "a ledger, as new-ledger makes one, that no other uses"
 A_NEW_FILE = "a name that no file has, in a folder with room"
 BEFORE_16 = "write FFFF before it"
 COUNTER_BITS = 21
@@ -145,7 +146,7 @@ TEXTS = {
                         "show frame tells its fields"),
     "answer refused": ("ANSWER", HEX, "the frame of a reply or of a refusal",
                        "show frame tells its fields"),
-    "KIND refused": ("KIND", ANY, "frame, block, image, log or journal"),
+    "KIND refused": ("KIND", ANY, "frame, block, image, log, journal or ledger"),
     "records refused": ("RECORDS", DECIMAL, "1 to 1000000000"),
     "KCV refused": ("KCV", HEX, "6 hexadecimal digits"),
     "PAN refused": ("PAN", DECIMAL, "12 to 19 decimal digits"),
@@ -300,13 +301,20 @@ CONSTANT = {
     "Payload": Explanation("BLOCK", "no such key", "a key of 16 or 24 bytes"),
     "log: too long": Explanation("WHAT", "a longer file", "at most 1073741824 bytes"),
     "journal: too long": Explanation("WHAT", "a longer file", "at most 1073741824 bytes"),
+    "ledger: too long": Explanation("WHAT", "a longer file", "at most 1073741824 bytes"),
     "journal: version 1, use copy-journal": Explanation(
         "journal", "version 1", "one of version 2; make it by dukpt copy-journal OLD NEW"),
     "journal: failed": Explanation("journal", "wrong records, or a step that failed",
                                    "a journal as it was kept, on a device that works"),
     "ledger: failed": Explanation("ledger", "a step of its device failed", "a device that works",
                                   "the next number may stand in it"),
-    "ledger: full": Explanation("ledger", "too little room", "16 bytes of zeros for each number"),
+    "ledger: full": Explanation("ledger", "too little room", "32 bytes of zeros for each number"),
+    "ledger: version 1, use copy-ledger": Explanation(
+        "ledger", "version 1", "one of version 2; make it by dukpt copy-ledger OLD NEW"),
+    "ledger: version 2 already": Explanation("ledger", "version 2", "one of version 1",
+                                             "issue takes this one as it is"),
+    "ledger: damaged": Explanation("ledger", "records that no ledger has",
+                                   "a ledger as it was kept"),
     "config: too long": Explanation("CONFIG", "a longer file", "at most 1048576 bytes"),
     "script: too long": Explanation("SCRIPT", "a longer file", "at most 1048576 bytes"),
     "serve: read failed": Explanation("input", "a read failed", "frames"),
@@ -336,15 +344,17 @@ CONSTANT = {
 REASONED = {
     "log: cannot read": ("WHAT", READABLE),
     "journal: cannot read": ("WHAT", READABLE),
+    "ledger: cannot read": ("WHAT", READABLE),
     "config: cannot read": ("CONFIG", READABLE),
     "script: cannot read": ("SCRIPT", READABLE),
     "padding: cannot read": ("/dev/urandom", "a device that can be read"),
     "identity: cannot read": ("/dev/urandom", "a device that can be read"),
     "log: cannot open": ("log", A_LOG),
-    "ledger: cannot open": ("ledger", A_LOG),
+    "ledger: cannot open": ("ledger", A_LEDGER),
     "journal: cannot open": ("journal", A_JOURNAL),
     "log: cannot make": ("log", A_NEW_FILE),
     "journal: cannot make": ("journal", A_NEW_FILE),
+    "ledger: cannot make": ("ledger", A_NEW_FILE),
     "out: cannot make": ("out", A_NEW_FILE),
 }
 
@@ -354,8 +364,6 @@ def of_file(fault: str, facts: Facts) -> Optional[Explanation]:
         name, wanted = REASONED[fault]
         return Explanation(name, facts.reason, wanted)
     record = None if facts.place is None else f"record {facts.place}"
-    if fault == "ledger: damaged":
-        return Explanation("ledger", record or "numbers that no ledger has", "initial key serial numbers")
     if fault == "log: failed":
         return Explanation("log", record or "wrong records, or a step that failed",
                            "a log as it was kept, on a device that works")
@@ -468,11 +476,13 @@ SHOWN = {
     },
 }
 A_RECORD = {"log": "16 zero bytes, or a record as FORMATS has it",
-            "journal": "32 zero bytes, or a payment as FORMATS has it"}
+            "journal": "32 zero bytes, or a payment as FORMATS has it",
+            "ledger": "32 zero bytes, a header, or an issue as FORMATS has it"}
 
 
 def of_show(asked: Asked, fault: str) -> Optional[Explanation]:
-    found = re.fullmatch("(frame|block|image|log|journal) refused at ([0-9]+): ([A-Za-z]+)", fault)
+    kinds = "frame|block|image|log|journal|ledger"
+    found = re.fullmatch(f"({kinds}) refused at ([0-9]+): ([A-Za-z]+)", fault)
     if not found:
         return None
     kind, place, why = found.groups()

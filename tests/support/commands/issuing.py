@@ -2,11 +2,12 @@
 lines, whose blocks are opened here."""
 from __future__ import annotations
 
+import functools
 import re
 from dataclasses import dataclass
 from typing import Iterable, Optional, Sequence
 
-from ..formats.log_file import log_image
+from ..formats.ledger_file import IDENTITY, MOST_RUN, Kept, Made, ledger_image
 from ..standards.des import cbc_decrypt, encrypt_block
 from ..standards.dukpt import SPENT, initial_key, serial_text
 from ..standards.key_blocks import ENCRYPTION, derived, unwrap
@@ -56,9 +57,20 @@ def asked(base: str, loading: str, iksn: str, count: str,
         raise Refused("count refused")
     if check_value is not None:
         wanted = hexadecimal(check_value, CHECK_VALUE, "KCV")
-        if encrypt_block(keys.base, bytes(8))[:3] != wanted:
+        if check_value_of(keys.base) != wanted:
             raise Refused("KCV differs")
     return keys, first, numbers
+
+
+def check_value_of(key: bytes) -> bytes:
+    return encrypt_block(key, bytes(8))[:3]
+
+
+@functools.lru_cache(maxsize=1 << 14)
+def made_of(base: bytes, number: int) -> tuple[bytes, bytes]:
+    """The initial key of a number, and its check value."""
+    key = initial_key(base, number)
+    return key, check_value_of(key)
 
 
 def numbers_left(first: int) -> int:
@@ -74,27 +86,52 @@ def bytes_of(numbers: Iterable[int]) -> list[bytes]:
     return [it.to_bytes(10, "big") for it in numbers]
 
 
-class Ledger:
-    """A ledger as it has to be: the numbers that it keeps, of so many that it has room for."""
+def numbers_of(kept: Iterable[Kept]) -> list[int]:
+    return [int.from_bytes(it.number, "big") for it in kept]
 
-    def __init__(self, room: int, numbers: Sequence[int] = ()) -> None:
-        self.room = room
-        self.numbers = list(numbers)
+
+def issued_by(keys: Keys, numbers: Iterable[int], run: int) -> list[Kept]:
+    """What a ledger keeps of these numbers, where a run with these keys issued them."""
+    of_set = check_value_of(keys.base)
+    return [Kept(it.to_bytes(10, "big"), Made(made_of(keys.base, it)[1], of_set, run))
+            for it in numbers]
+
+
+def last_run(kept: Iterable[Kept]) -> int:
+    """The largest number of a run, or zero."""
+    return max((it.made.run for it in kept if it.made), default=0)
+
+
+class Ledger:
+    """A ledger as it has to be: what it keeps, of so much that it has room for. Its first numbers
+    were copied from a ledger in the form of a log."""
+
+    def __init__(self, room: int, numbers: Sequence[int] = (), identity: int = IDENTITY) -> None:
+        self.room, self.identity = room, identity
+        self.kept = [Kept(it) for it in bytes_of(numbers)]
+
+    @property
+    def numbers(self) -> list[int]:
+        return numbers_of(self.kept)
 
     @property
     def image(self) -> bytes:
-        return log_image(bytes_of(self.numbers), self.room)
+        return ledger_image(self.kept, self.room, self.identity)
 
-    def issue(self, first: int, count: int, skips: bool) -> tuple[list[int], str]:
+    def keep(self, keys: Keys, numbers: Iterable[int]) -> None:
+        """Keeps what a run issues, under the number behind that of the last."""
+        self.kept += issued_by(keys, numbers, 1 + last_run(self.kept))
+
+    def issue(self, keys: Keys, first: int, count: int, skips: bool) -> tuple[list[int], str]:
         """The numbers that a run issues, or the fault for which it issues none."""
         asked, there = numbers_from(first, count), set(self.numbers)
         found = [it for it in asked if it in there]
         if found and not skips:
             return [], f"{serial_text(found[0])}: issued"
         left = [it for it in asked if it not in there]
-        if len(left) > self.room - len(self.numbers):
+        if len(left) > self.room - len(self.kept) or last_run(self.kept) == MOST_RUN:
             return [], "ledger: full"
-        self.numbers += left
+        self.keep(keys, left)
         return left, ""
 
     def again(self, first: int, count: int) -> tuple[list[int], str]:
@@ -111,8 +148,8 @@ def read_line(line: bytes, keys: Keys) -> Issued:
         raise WrongLine(f"this is no line of a block: {line!r}")
     number, text = int(found[1], 16), found[2]
     fields, key = unwrap(keys.loading, text)
-    wanted = initial_key(keys.base, number)
-    value = shown(encrypt_block(wanted, bytes(8))[:3])
+    wanted, checked = made_of(keys.base, number)
+    value = shown(checked)
     if (fields, key, found[3].decode()) != (FIELDS, wanted, value):
         raise WrongLine(f"{line!r}: its key is {key.hex()} and not {wanted.hex()}, or {value} is not "
                         "its check value")

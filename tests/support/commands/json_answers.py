@@ -17,7 +17,7 @@ Object = list[tuple[str, Union[str, list[str]]]]
 
 # Names whose member is always an array.
 MANY = ("step", "register", "past", "optional-block", "terminal", "payment", "reversal",
-        "component", "component-kcv", "component-cmac")
+        "component", "component-kcv", "component-cmac", "issued")
 LINE_REFUSED_TEXT = "line refused"
 NOTE = re.compile(rb"(tried \d+ of \d+|passed over \d+|progress \d+( of \d+)?)\n")
 

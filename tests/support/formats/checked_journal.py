@@ -24,10 +24,15 @@ IDENTITY = 0x0123456789ABCDEF
 SAID, CHECK = slice(1, 27), slice(27, 31)
 
 
+def check_bytes(check: int) -> bytes:
+    """A check sum as it stands in a file: its lowest byte first."""
+    return check.to_bytes(4, "little")
+
+
 def header_of(identity: int = IDENTITY) -> bytes:
     said = (MARK + bytes([KIND, VERSION]) + bytes(5) + bytes([RECORD])
             + identity.to_bytes(8, "big") + bytes(4))
-    return said + zlib.crc32(said).to_bytes(4, "big")
+    return said + check_bytes(zlib.crc32(said))
 
 
 def identity_of(image: bytes) -> Optional[int]:
@@ -45,8 +50,8 @@ def with_check_sums(behind: bytes, identity: int, first: int = 1) -> bytes:
         if len(record) == RECORD and any(record):
             place = first + at // RECORD
             said = identity.to_bytes(8, "big") + place.to_bytes(8, "big") + record[SAID]
-            check = zlib.crc32(said) ^ int.from_bytes(record[CHECK], "big")
-            record = record[: CHECK.start] + check.to_bytes(4, "big") + record[CHECK.stop :]
+            check = zlib.crc32(said) ^ int.from_bytes(record[CHECK], "little")
+            record = record[: CHECK.start] + check_bytes(check) + record[CHECK.stop :]
         found.append(record)
     return b"".join(found)
 

@@ -1,10 +1,12 @@
-"""Which files a service opens to write: those that a log or a journal left, by docs/FORMATS.md, "A file
-that is a log or a journal". And what a start reads of a file to see that."""
+"""Which files a service or `issue` opens to write: those that a log, a journal or a ledger left, by
+docs/FORMATS.md, "A file that is a log, a journal or a ledger". And what a start reads of a file to
+see that."""
 from __future__ import annotations
 
 from dataclasses import dataclass
 from typing import Callable, Optional
 
+from . import ledger_file, log_file
 from .checked_journal import identity_of
 from .journal_records import BOTH_KINDS, wrong_bytes
 
@@ -37,10 +39,9 @@ class Records:
         """How many follow an open record at a place."""
         return 0 if place < self.headers else int.from_bytes(record[self.followers], "big")
 
-
     def foreign(self, image: bytes) -> Optional[int]:
-        """The last record that is not zero, where these whole records are such as no log or journal
-        leaves."""
+        """The last record that is not zero, where these whole records are such as no log, journal
+        or ledger leaves."""
         records, kept = self.of(image), self.kept(image)
         rest = list(enumerate(records))[kept:]
         is_left = (all(not it[0] for at, it in rest if at > kept)
@@ -66,6 +67,19 @@ def is_header(record: bytes) -> bool:
 # A journal of version 1, and one of version 2.
 OLD_JOURNAL = Records(32, 4096, slice(2, 4), is_front=is_closed_or_whole)
 JOURNAL = Records(32, 4096, slice(2, 4), headers=1, is_front=is_header)
+
+
+def is_closed_or_numbered(record: bytes) -> bool:
+    return record[0] != OPEN or not any(record[log_file.ZEROS])
+
+
+def is_ledger_header(record: bytes) -> bool:
+    return ledger_file.identity_of(record) is not None
+
+
+# A ledger of version 1, which has the form of a log, and one of version 2.
+OLD_LEDGER = Records(16, 1, slice(0, 0), is_front=is_closed_or_numbered)
+LEDGER = Records(32, 1, slice(0, 0), headers=1, is_front=is_ledger_header)
 
 # A start looks through so many bytes at once, from the end on.
 PIECE = 1 << 16

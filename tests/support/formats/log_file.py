@@ -44,6 +44,14 @@ def numbers_in(image: bytes, room: int) -> list[bytes]:
     """The numbers that a log with room for so many keeps; what is damaged is an error."""
     if len(image) != RECORD * room:
         raise DamagedLog(f"the log has {len(image)} bytes, and not {RECORD * room}")
+    numbers = open_numbers(image)
+    if len(set(numbers)) < len(numbers):
+        raise DamagedLog("the log has a number twice")
+    return numbers
+
+
+def open_numbers(image: bytes) -> list[bytes]:
+    """The numbers of whole records, of which one may stand there twice; damage is an error."""
     gates = [one[0] == OPEN for one in records_of(image)]
     kept = records_of(image)[: sum(gates)]
     if not all(gates[: len(kept)]):
@@ -51,10 +59,7 @@ def numbers_in(image: bytes, room: int) -> list[bytes]:
     for at, one in enumerate(kept):
         if any(one[ZEROS]):
             raise DamagedLog(f"record {at} of the log ends with {one[ZEROS].hex()}")
-    numbers = [one[NUMBER] for one in kept]
-    if len(set(numbers)) < len(numbers):
-        raise DamagedLog("the log has a number twice")
-    return numbers
+    return [one[NUMBER] for one in kept]
 
 
 def read_log(path: Path, room: int) -> list[bytes]:

@@ -179,6 +179,10 @@ class Found:
         return not self.addresses and not self.digits and self.parted is None
 
     @property
+    def is_tables_alone(self) -> bool:
+        return not self.addresses and self.parted is None
+
+    @property
     def is_nothing(self) -> bool:
         return self.is_digits_alone and self.is_check_sums_alone
 

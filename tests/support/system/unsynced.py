@@ -8,8 +8,11 @@ from typing import Iterator, Sequence
 
 from .traced_files import SYNCS, Call
 
-# What a new journal's file begins with: a first gate that is open, and behind it no payment.
-MARK = b"\x01"
+# What the file of a new journal or ledger begins with, which is no front of either: the bytes of their
+# header that tell it from a record of a log are right, and they are no whole records. A stand-in begins
+# with the first of them alone.
+BEGUN = b"\x01" + bytes(14) + b"\x20\x00"
+MARKS = {range(1): BEGUN[:1], range(len(BEGUN)): BEGUN}
 # Up to which places what was written may be left, with zeros behind: a gate, a kind, a part of a payment,
 # a record, two; and how many more are drawn.
 FRONTS = (1, 2, 20, 32, 64)
@@ -58,8 +61,8 @@ class Unsynced:
 
 
 def unsynced_of(calls: Sequence[Call], file: str, whole: bytes) -> Iterator[Unsynced]:
-    """What a new file is at each of its syncs, before it is done. Its first byte may be written as a mark
-    at first; all else that is written are the bytes of the whole file."""
+    """What a new file is at each of its syncs, before it is done. It may begin with a mark; all else that
+    is written are the bytes of the whole file."""
     now, synced, spans = b"", b"", []
     for call in (it for it in calls if it.file == file):
         if call.name == "ftruncate":
@@ -67,7 +70,7 @@ def unsynced_of(calls: Sequence[Call], file: str, whole: bytes) -> Iterator[Unsy
             now = now[:size].ljust(size, b"\x00")
         elif call.name == "pwrite64":
             at = call.span
-            given = MARK if not now and at == range(1) else whole[at.start : at.stop]
+            given = MARKS[at] if not now and at in MARKS else whole[at.start : at.stop]
             now = now[: at.start].ljust(at.start, b"\x00") + given + now[at.stop :]
             spans.append(at)
         elif call.name in SYNCS and (spans or now != synced):

@@ -1,6 +1,6 @@
 -- Marks of the numbers that are issued, one for each place: this project's own.
 use Rattle.std.specs.Prelude.{◌≡◌, ◌⊎◌, ◌↔◌, ◌<◌, ◌+◌, ℕ, suc, Bool, true, false, List, [], ◌∷◌, length, get_or}
-use Rattle.duk_store.specs.Log.{Numbers}
+use Rattle.duk_ledger.specs.Issued.{Issues}
 use Rattle.duk_commands.specs.Ledger.{IsIssued}
 use Rattle.duk_commands.specs.Numbers.{iksn_at}
 
@@ -14,10 +14,10 @@ pub record IsMarkedAlso (old new : List Bool) (first iksn : ℕ) : Type 0 where
   pub marked : (place : ℕ) → place < length old
       → IsMarked new place ↔ (IsMarked old place ⊎ (iksn ≡ iksn_at first place))
 
--- the numbers that are issued have marks, and no others
-abbrev pub AreMarked : Numbers → ℕ → List Bool → Type 0
-AreMarked numbers first marks = (place : ℕ) → place < length marks
-    → IsMarked marks place ↔ IsIssued numbers (iksn_at first place)
+-- the places of the numbers that are issued have marks, and no others
+abbrev pub AreMarked : Issues → ℕ → List Bool → Type 0
+AreMarked issues first marks = (place : ℕ) → place < length marks
+    → IsMarked marks place ↔ IsIssued issues (iksn_at first place)
 
 -- the places without a mark, where the marks begin at this place
 abbrev pub unmarked : List Bool → ℕ → List ℕ

@@ -1,6 +1,7 @@
 //! The lines of issued numbers, made once more.
 
 ghost use Rattle.std.specs.Prelude.{◌≡◌, ◌*◌, ◌≤◌, IfErr, OnOk, length};
+ghost use Rattle.duk_ledger.specs.Ledger.{ledger_meaning};
 ghost use Rattle.duk_commands.specs.Again.{AreMadeAgain, NotMadeAgain};
 ghost use Rattle.duk_commands.specs.Issue.{ends};
 ghost use Rattle.duk_commands.specs.inner.Again.{AreCut, AreWritten};
@@ -12,7 +13,8 @@ use crate::issue::marks::first_unmarked;
 use crate::issue::order::{Order, PADDING_LENGTH};
 use crate::issue::serial::iksn_at;
 use duk_io::{Sink, write_text};
-use duk_store::UsedLog;
+use duk_ledger::Ledger;
+use duk_store::Disk;
 use std::alloc::Global;
 
 /// Writes the lines of an order whose numbers stand in the ledger, as `issue` wrote them but for the
@@ -23,25 +25,24 @@ use std::alloc::Global;
 /// terminal, which are to be random.
 ///
 /// The faults, in this order: `OutOfMemory`, where all is as it was; `LedgerFailed` where a device
-/// step failed, and `LedgerDamaged`, also where the ledger keeps a number with a counter;
-/// `NotIssued` of the first number that does not stand in the ledger; `WriteFailed`.
-pub fn issue_again<L: UsedLog, W: Sink>(
+/// step failed, and `LedgerDamaged`; `NotIssued` of the first number that does not stand in the ledger; `WriteFailed`.
+pub fn issue_again<D: Disk, W: Sink>(
     alloc: Global,
     order: &Order,
     padding: &[u8],
-    ledger: &mut L,
+    ledger: &mut Ledger<D>,
     output: &mut W,
 ) -> Result<(), IssueFault>
     requires padding { PADDING_LENGTH * order.now.count ≤ length padding.now }
     ensures made { OnOk result (AreMadeAgain
-        L.meaning order.now padding.now
+        (ledger_meaning D.meaning) order.now padding.now
         (ends ledger.old (W.known output.old)) (ends ledger.new (W.known output.new))) }
     ensures failed { IfErr result (NotMadeAgain
-        L.meaning order.now padding.now
+        (ledger_meaning D.meaning) order.now padding.now
         (ends ledger.old (W.known output.old)) (ends ledger.new (W.known output.new))) }
 {
-    let marks = read_ledger(alloc, order, ledger)?;
-    match first_unmarked(marks.as_slice()) {
+    let read = read_ledger(alloc, order, ledger)?;
+    match first_unmarked(read.marks.as_slice()) {
         Some(place) => Err(IssueFault::NotIssued(iksn_at(order.first, place as u32))),
         None => write_lines(order, padding, output),
     }
@@ -58,7 +59,7 @@ fn write_lines<W: Sink>(order: &Order, padding: &[u8], output: &mut W) -> Result
     duk_io::laws::writes();
     let mut group = LineGroup::none();
     for place in 0..order.count {
-        let line = group.line(order, place, padding);
+        let (line, _) = group.line(order, place, padding);
         if write_text(output, line.as_slice()).is_err() {
             return Err(IssueFault::WriteFailed);
         }

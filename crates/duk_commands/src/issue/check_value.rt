@@ -1,9 +1,10 @@
-//! The check value that a base derivation key is to have.
+//! The check value of a base derivation key, and that which it is to have.
 
-ghost use Rattle.std.specs.Prelude.{IfErr, OnOk};
+ghost use Rattle.std.specs.Prelude.{◌≡◌, IfErr, OnOk};
 ghost use Rattle.std.specs.Option.{option_copied};
 ghost use Rattle.duk_commands.specs.Order.{HasCheckValue};
 ghost use Rattle.duk_commands.specs.inner.CheckValue.{IsCheckValueRefused};
+ghost use Rattle.duk_mac.specs.CheckValue.{check_value_of};
 
 use crate::issue::fault::IssueFault;
 use duk_group::{WIDTH, check_values};
@@ -22,9 +23,16 @@ pub(crate) fn test_check_value(bdk: &Key<16>, kcv: Option<&str>) -> Result<(), I
     let Ok(wanted) = <[u8; 3] as FromHex>::from_hex(text) else {
         return Err(IssueFault::KcvRefused);
     };
-    if wanted == check_values(&[*bdk; WIDTH])[0] {
+    if wanted == key_set_value(bdk) {
         Ok(())
     } else {
         Err(IssueFault::KcvDiffers)
     }
+}
+
+/// The check value of a base derivation key.
+pub(crate) fn key_set_value(bdk: &Key<16>) -> [u8; 3]
+    ensures { result ≡ check_value_of bdk.now }
+{
+    check_values(&[*bdk; WIDTH])[0]
 }

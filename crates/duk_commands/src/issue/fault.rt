@@ -33,6 +33,8 @@ pub enum IssueFault {
     OutUnmade,
     /// A device step of the ledger failed.
     LedgerFailed,
+    /// The ledger is of version 1, in the form of a log: it is copied first.
+    LedgerOldVersion,
     /// The ledger's medium holds what no ledger leaves on it.
     LedgerDamaged,
     /// The key of this terminal was issued before.
@@ -64,7 +66,7 @@ impl IssueFault {
     /// What is reported of the fault, after the number where it names one.
     fn text(self) -> &'static str
         ensures text { result.now ≡ issue_text self }
-        ensures short { length result.now ≤ 20 }
+        ensures short { length result.now ≤ 34 }
     {
         match self {
             IssueFault::BdkRefused => "BDK refused",
@@ -77,6 +79,7 @@ impl IssueFault {
             IssueFault::LedgerUnopened => "ledger: cannot open",
             IssueFault::OutUnmade => "out: cannot make",
             IssueFault::LedgerFailed => "ledger: failed",
+            IssueFault::LedgerOldVersion => "ledger: version 1, use copy-ledger",
             IssueFault::LedgerDamaged => "ledger: damaged",
             IssueFault::Issued(_) => ": issued",
             IssueFault::NotIssued(_) => ": not issued",

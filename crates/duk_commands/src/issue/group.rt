@@ -5,8 +5,9 @@ ghost use Rattle.std.specs.Prelude.{◌≡◌, ◌+◌, ◌*◌, ◌<◌, ◌≤
 ghost use Rattle.duk_commands.specs.IssuedLines.{IsLine, padding_at};
 ghost use Rattle.duk_commands.specs.Numbers.{iksn_at};
 ghost use Rattle.duk_commands.specs.declared.issue.order.Order.{Order};
-ghost use Rattle.duk_commands.specs.inner.IssueGroup.{IsGroupOf};
+ghost use Rattle.duk_commands.specs.inner.IssueGroup.{IsGroupOf, initial_key_at};
 ghost use Rattle.duk_group.specs.Numbers.{bytes_at};
+ghost use Rattle.duk_mac.specs.CheckValue.{check_value_of};
 
 use crate::issue::line::line_of;
 use crate::issue::order::{Order, PADDING_LENGTH};
@@ -41,20 +42,22 @@ impl LineGroup {
         }
     }
 
-    /// The line of the terminal at a place. Its group is made first, unless it is the one that is
-    /// there.
-    pub(crate) fn line(&mut self, order: &Order, place: u32, padding: &[u8]) -> Lines
+    /// The line of the terminal at a place, and the check value in it. Its group is made first,
+    /// unless it is the one that is there.
+    pub(crate) fn line(&mut self, order: &Order, place: u32, padding: &[u8]) -> (Lines, [u8; 3])
         requires place { place < order.now.count }
         requires padding { PADDING_LENGTH * order.now.count ≤ length padding.now }
         requires group { IsGroupOf order.now padding.now self.old }
-        ensures line { IsLine order.now padding.now place result.items }
+        ensures line { IsLine order.now padding.now place result.0.items }
+        ensures value { result.1 ≡ check_value_of (initial_key_at order.now place) }
         ensures group { IsGroupOf order.now padding.now self.new }
     {
         let base = place / WIDTH as u32 * WIDTH as u32;
         self.hold_from(order, base, padding);
         let lane = (place - base) as usize;
         let (block, value) = (self.blocks[lane], self.values[lane]);
-        line_of(iksn_at(order.first, place), &block, &value)
+        let line = line_of(iksn_at(order.first, place), &block, &value);
+        (line, value)
     }
 
     /// Makes the group from a place on, unless it is the one that is there.

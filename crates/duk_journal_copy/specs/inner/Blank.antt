@@ -1,10 +1,15 @@
 -- What only private functions and proofs say beside `Blank.antt`: this project's own.
-use Rattle.std.specs.Prelude.{◌≡◌, ◌-◌, ℕ, replicate}
+use Rattle.std.specs.Prelude.{◌≡◌, ◌-◌, ℕ, replicate, slice_index}
 use Rattle.duk_store.specs.Disk.{DiffersWithin, DiskState, LeavesChanged, LeavesReads, PreservesDisk, written}
 
 -- a stop leaves all bytes of a disk as they were, but for those from one place to another
 abbrev pub LeavesOutside : ℕ → ℕ → DiskState → DiskState → Type 0
 LeavesOutside from to old new = LeavesChanged (DiffersWithin from (to - from)) old new
+
+-- a stop leaves a byte of a disk as it was
+abbrev pub LeavesByte : ℕ → DiskState → DiskState → Type 0
+LeavesByte place old new =
+    LeavesChanged (λ was bytes. slice_index bytes place ≡ slice_index was place) old new
 
 -- zeros were written from one place to another
 pub record AreZerosWritten (from to : ℕ) (old new : DiskState) : Type 0 where

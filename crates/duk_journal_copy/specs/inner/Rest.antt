@@ -10,9 +10,9 @@ abbrev pub journal_bytes : ℕ → List ℕ → ℕ → List ℕ
 journal_bytes identity records size =
     header_of journal_kind identity ++ (records ++ replicate (size - 32 - length records) 0)
 
--- a header with this identity is written but for its first two bytes
-pub record IsFrontWritten (identity : ℕ) (old new : DiskState) : Type 0 where
+-- a header of this kind and with this identity is written but for its first two bytes
+pub record IsFrontWritten (kind identity : ℕ) (old new : DiskState) : Type 0 where
   pub nature : PreservesDisk old new
   pub no_failure : new.failures ≡ old.failures
   pub front : old.honest
-      → new.reads ≡ written old.reads 2 (drop 2 (header_of journal_kind identity))
+      → new.reads ≡ written old.reads 2 (drop 2 (header_of kind identity))

@@ -37,7 +37,7 @@ pub(crate) fn usage<'a>() -> Usage<'a>
 
 /// At the end of its help.
 const HELP: &str = "\
-Stop the service first. FILE is locked, looked at and not changed; zeros are written behind its end, 32
+Stop the service first. FILE is locked, looked at, and not changed; zeros are written behind its end, 32
 bytes for each record, and synced. A stop leaves it with what it keeps and a part of them. If that is no
 whole record, a service refuses the journal until it is made larger again, which completes the record.
 

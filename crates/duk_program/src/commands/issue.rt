@@ -7,6 +7,7 @@ ghost use Rattle.std.specs.Option.{option_copied};
 ghost use Rattle.duk_arguments.specs.Request.{text_in, value_in};
 ghost use Rattle.duk_commands.specs.Answer.{streams};
 ghost use Rattle.duk_io.specs.Sink.{IsHandedOn};
+ghost use Rattle.duk_ledger.specs.Ledger.{ledger_meaning};
 ghost use Rattle.duk_commands.specs.Issue.{ends};
 ghost use Rattle.duk_commands.specs.Order.{IsOrderOf, IsOrderRefused};
 ghost use Rattle.duk_program.specs.Random.{random_device};
@@ -24,8 +25,9 @@ use duk_commands::issue::{
     IssueFault, Order, PADDING_LENGTH, issue, issue_again, note_passed_over,
 };
 use duk_io::Sink;
+use duk_ledger::{IssuedFormat, Ledger};
 use duk_service::{Access, FileFault, FileSystem, LogFiles, OpenFault, RecordFormat, open_own};
-use duk_store::{DiskLog, UsedLog};
+use duk_store::{Disk, Records};
 use std::alloc::Global;
 
 /// `issue BDK LOADING IKSN COUNT --ledger FILE [--bdk-kcv KCV] [--out FILE] [--skip-issued] [--again]`
@@ -125,9 +127,10 @@ pub(crate) struct Task<'a> {
 ///
 /// The faults, in this order: `BDK refused`, `loading refused`, `IKSN refused`, `count refused`, `KCV
 /// refused`, `KCV differs`; `padding: cannot read`, where the system gives no random bytes; `ledger:
-/// cannot open`, `ledger: failed` and `ledger: damaged`, where its bytes are none that a ledger
-/// leaves; `out: cannot make`; then those of `issue` or `issue_again`. `write failed` stands in place of
-/// any behind which lines could not be handed on.
+/// cannot open`, `ledger: failed`, `ledger: version 1, use copy-ledger`, where it has the form of a
+/// log, and `ledger: damaged`, where its bytes are none that a ledger leaves; `out: cannot make`; then
+/// those of `issue` or `issue_again`. `write failed` stands in place of any behind which lines could
+/// not be handed on.
 pub(crate) fn issue_files<S: FileSystem + LogFiles, W: Sink, F: Sink>(
     alloc: Global,
     files: &S,
@@ -164,7 +167,7 @@ pub(crate) fn issue_files<S: FileSystem + LogFiles, W: Sink, F: Sink>(
         if_issued: IfIssued::by(request),
         padding: padding.as_slice(),
     };
-    let ledger = DiskLog::new(disk);
+    let ledger = Records::new(disk, IssuedFormat {});
     let out = request.value("out");
     issue_to(alloc, files, &task, out, ledger, output, fault)
 }
@@ -204,31 +207,32 @@ fn open_ledger<S: LogFiles>(files: &S, ledger: &str) -> Result<S::Disk, IssueFau
     ensures opened { IfOk result (IsLedgerOpened S.Disk.meaning (S.disks files.now ledger.now)) }
     ensures refused { IfErr result (IsLedgerUnopened S.Disk.meaning (S.disks files.now ledger.now)) }
 {
-    match open_own(files, ledger, RecordFormat::Log, Access::Write) {
+    match open_own(files, ledger, RecordFormat::Ledger, Access::Write) {
         Ok(disk) => Ok(disk),
         Err(OpenFault::Unopened) => Err(IssueFault::LedgerUnopened),
         Err(OpenFault::Failed) => Err(IssueFault::LedgerFailed),
-        Err(OpenFault::Foreign | OpenFault::OldVersion) => Err(IssueFault::LedgerDamaged),
+        Err(OpenFault::OldVersion) => Err(IssueFault::LedgerOldVersion),
+        Err(OpenFault::Foreign) => Err(IssueFault::LedgerDamaged),
     }
 }
 
 /// Does a task over a ledger, with its lines on `output`, or in a new file under a path.
-fn issue_to<S: LogFiles, L: UsedLog, W: Sink, F: Sink>(
+fn issue_to<S: LogFiles, D: Disk, W: Sink, F: Sink>(
     alloc: Global,
     files: &S,
     task: &Task<'_>,
     out: Option<&str>,
-    ledger: L,
+    ledger: Ledger<D>,
     output: &mut W,
     fault: &mut F,
 ) -> Result<(), IssueFault>
     requires padding { 6 * task.now.order.now.count ≤ length task.now.padding.now }
     requires make { IfSome (option_copied out) (S.may_make files.now) }
-    ensures done { OnOk result (IsIssuedTo L.meaning (S.making files.now)
+    ensures done { OnOk result (IsIssuedTo (ledger_meaning D.meaning) (S.making files.now)
         (option_copied out.entry) (task_of task.now) (issuing ledger (streams
         (W.known output.old) (W.known output.new) (F.known fault.old) (F.known fault.new)))) }
     ensures handed_on { OnOk result (IsHandedOn (W.held_back output.new)) }
-    ensures not_done { IfErr result (IsNotIssuedTo L.meaning (S.making files.now)
+    ensures not_done { IfErr result (IsNotIssuedTo (ledger_meaning D.meaning) (S.making files.now)
         (option_copied out.entry) (task_of task.now) (issuing ledger (streams
         (W.known output.old) (W.known output.new) (F.known fault.old) (F.known fault.new)))) }
 {
@@ -240,22 +244,22 @@ fn issue_to<S: LogFiles, L: UsedLog, W: Sink, F: Sink>(
 
 /// Does a task over a ledger, with its lines in a new file under a path. Of a file that was made, and
 /// in which there is no line, nothing is left, if it can be removed.
-fn issue_to_file<S: LogFiles, L: UsedLog, W: Sink, F: Sink>(
+fn issue_to_file<S: LogFiles, D: Disk, W: Sink, F: Sink>(
     alloc: Global,
     files: &S,
     task: &Task<'_>,
     path: &str,
-    ledger: L,
+    ledger: Ledger<D>,
     output: &mut W,
     fault: &mut F,
 ) -> Result<(), IssueFault>
     requires padding { 6 * task.now.order.now.count ≤ length task.now.padding.now }
     requires make { S.may_make files.now path.now }
-    ensures done { OnOk result (IsIssuedToFile L.meaning (S.making files.now path.now).lines
+    ensures done { OnOk result (IsIssuedToFile (ledger_meaning D.meaning) (S.making files.now path.now).lines
         (task_of task.now) (issuing ledger (streams
         (W.known output.old) (W.known output.new) (F.known fault.old) (F.known fault.new)))) }
     ensures handed_on { OnOk result (IsHandedOn (W.held_back output.new)) }
-    ensures not_done { IfErr result (IsNotIssuedToFile L.meaning
+    ensures not_done { IfErr result (IsNotIssuedToFile (ledger_meaning D.meaning)
         (S.making files.now path.now).lines (task_of task.now) (issuing ledger (streams
         (W.known output.old) (W.known output.new) (F.known fault.old) (F.known fault.new)))) }
 {
@@ -274,19 +278,19 @@ fn issue_to_file<S: LogFiles, L: UsedLog, W: Sink, F: Sink>(
 
 /// Does a task over a ledger, hands the lines on, and notes how many numbers were passed over, where
 /// there are any.
-fn issue_over<L: UsedLog, W: Sink, F: Sink>(
+fn issue_over<D: Disk, W: Sink, F: Sink>(
     alloc: Global,
     task: &Task<'_>,
-    ledger: L,
+    ledger: Ledger<D>,
     output: &mut W,
     fault: &mut F,
 ) -> Result<(), IssueFault>
     requires { 6 * task.now.order.now.count ≤ length task.now.padding.now }
-    ensures done { OnOk result (IsIssuedOver L.meaning (task_of task.now)
+    ensures done { OnOk result (IsIssuedOver (ledger_meaning D.meaning) (task_of task.now)
         (issuing ledger (streams (W.known output.old) (W.known output.new)
         (F.known fault.old) (F.known fault.new)))) }
     ensures handed_on { OnOk result (IsHandedOn (W.held_back output.new)) }
-    ensures not_done { IfErr result (IsNotIssuedOver L.meaning (task_of task.now)
+    ensures not_done { IfErr result (IsNotIssuedOver (ledger_meaning D.meaning) (task_of task.now)
         (issuing ledger (streams (W.known output.old) (W.known output.new)
         (F.known fault.old) (F.known fault.new)))) }
 {
@@ -313,16 +317,16 @@ fn note<F: Sink>(passed_over: u32, fault: &mut F)
 }
 
 /// Writes the lines of a task, and gives how many numbers were passed over.
-fn make_lines<L: UsedLog, W: Sink>(
+fn make_lines<D: Disk, W: Sink>(
     alloc: Global,
     task: &Task<'_>,
-    ledger: &mut L,
+    ledger: &mut Ledger<D>,
     output: &mut W,
 ) -> Result<u32, IssueFault>
     requires { 6 * task.now.order.now.count ≤ length task.now.padding.now }
-    ensures made { IfOk result (HasMadeLines L.meaning (task_of task.now)
+    ensures made { IfOk result (HasMadeLines (ledger_meaning D.meaning) (task_of task.now)
         (ends ledger.old (W.known output.old)) (ends ledger.new (W.known output.new))) }
-    ensures unmade { IfErr result (HasNotMadeLines L.meaning (task_of task.now)
+    ensures unmade { IfErr result (HasNotMadeLines (ledger_meaning D.meaning) (task_of task.now)
         (ends ledger.old (W.known output.old)) (ends ledger.new (W.known output.new))) }
 {
     let (order, padding) = (task.order, task.padding);
@@ -341,10 +345,11 @@ const HELP: &str = "\
 Issues COUNT initial keys, the first of IKSN and each at the next initial key serial number, as lines
 `issued IKSN BLOCK KCV`. BLOCK is a key block under LOADING with the fields B1TX00N and random
 padding, KCV the key's check value. All numbers have the first 40 bits of IKSN, which choose the base
-derivation key. FILE of --ledger is a log of used numbers, as new-log makes one: each number is in it
-before its line is printed. None is issued where it has one already; with --skip-issued those are
-passed over, and standard error says how many. --again makes the lines of such numbers again. FILE of
---out has each line on its medium before the next number is spent.
+derivation key. FILE of --ledger is a ledger, as new-ledger makes one: each number is in it before its
+line is printed, with the check values of its key and of BDK, and the number of this run. None is issued
+where it has one already; with --skip-issued those are passed over, and standard error says how many.
+--again makes the lines of such numbers again. FILE of --out has each line on its medium before the next
+number is spent.
 
 BDK and LOADING are better written as @FILE (the first line of a file) or @- (of standard input):
 every user of the machine sees the words of a process.
@@ -352,8 +357,8 @@ every user of the machine sees the words of a process.
 Example:
   $ echo 0123456789ABCDEFFEDCBA9876543210 >bdk.txt
   $ echo DD7515F2BFC17F85CE48F3CA25CB21F6 >loading.txt
-  $ dukpt new-log issued.log 1000
-  $ dukpt issue @bdk.txt @loading.txt FFFF9876543210E00000 1 --ledger issued.log | cut -d ' ' -f 1,2,4
+  $ dukpt new-ledger issued.ledger 1000
+  $ dukpt issue @bdk.txt @loading.txt FFFF9876543210E00000 1 --ledger issued.ledger | cut -d ' ' -f 1,2,4
   issued FFFF9876543210E00000 AF8C07
 
 Faults, on standard error with status 1, the first alone; --explain says more:
@@ -365,7 +370,7 @@ Faults, on standard error with status 1, the first alone; --explain says more:
   KCV refused       KCV is not 6 hexadecimal digits
   KCV differs       BDK has another check value
   padding: ..       The system's random device: cannot read
-  ledger: ..        The ledger: cannot open, failed, damaged
+  ledger: ..        The ledger: cannot open, failed, version 1, damaged
   out: cannot make  There is such a file, or none can be made
   IKSN: issued      The first of the numbers that the ledger has already
   IKSN: not issued  The first of the numbers that it does not have, with --again

@@ -17,7 +17,7 @@ pub(crate) fn usage<'a>() -> Usage<'a>
         name: "new-log",
         way: Way::Files,
         answers: Answers::Are(Shape::Whole),
-        about: "Makes the file of a new log, or of a new ledger",
+        about: "Makes the file of a new log",
         after_help: HELP,
         conflict: None,
         arguments: &[
@@ -37,9 +37,8 @@ pub(crate) fn usage<'a>() -> Usage<'a>
 
 /// At the end of its help.
 const HELP: &str = "\
-A log, of used numbers or of issued ones, takes 16 bytes for each. They are zeros at first, and all of
-them are written, so that a device without room for them shows now and not at a number. FILE and its
-folder are synced.
+A log takes 16 bytes for each used number. They are zeros at first, and all of them are written, so that a
+device without room for them shows now and not at a number. FILE and its folder are synced.
 
 Example:
   $ dukpt new-log used.log 1000

@@ -5,7 +5,7 @@ ghost use Rattle.duk_program.specs.CommandLine.{row_of};
 ghost use Rattle.duk_program.specs.inner.CommandLine.{row_of_usage};
 ghost use Rattle.duk_arguments.specs.Request.{text_in};
 ghost use Rattle.duk_io.specs.Sink.{IsHandedOn};
-ghost use Rattle.duk_program.specs.Show.{HasNotShownAsked, HasNotShownText, HasShownAsked, HasShownText, IsJournalFileRefused, IsJournalFileText, IsKeyOfFrame, IsLogFileRefused, IsLogFileText, IsNotShown, IsShowRefused, IsShowText, IsShown, show_arguments};
+ghost use Rattle.duk_program.specs.Show.{HasNotShownAsked, HasNotShownText, HasShownAsked, HasShownText, IsJournalFileRefused, IsJournalFileText, IsLedgerFileRefused, IsLedgerFileText, IsKeyOfFrame, IsLogFileRefused, IsLogFileText, IsNotShown, IsShowRefused, IsShowText, IsShown, show_arguments};
 ghost use Rattle.duk_show.specs.Block.{IsBlockRefused, IsBlockText};
 ghost use Rattle.duk_show.specs.Frame.{IsFrameRefused, IsFrameText};
 ghost use Rattle.duk_show.specs.CheckedFrame.{IsCheckRefused, IsCheckedText};
@@ -22,7 +22,8 @@ use duk_commands::{KeyArgument, hand_on};
 use duk_io::{Sink, write_text};
 use duk_service::{FileFault, FileSystem};
 use duk_show::{
-    ShowFault, block_lines, checked_frame_lines, frame_lines, image_lines, journal_lines, log_lines,
+    ShowFault, block_lines, checked_frame_lines, frame_lines, image_lines, journal_lines,
+    ledger_lines, log_lines,
 };
 use std::alloc::Global;
 
@@ -34,19 +35,19 @@ pub(crate) fn usage<'a>() -> Usage<'a>
         name: "show",
         way: Way::Files,
         answers: Answers::OfKind,
-        about: "Prints the fields of a frame, a key block, a terminal's image, a log or a journal",
+        about: "Prints the fields of a frame, a key block, a terminal's image, a log, a journal or a ledger",
         after_help: HELP,
         conflict: Some(CONFLICT),
         arguments: &[
             Argument::Needed(
                 Plain,
                 "KIND",
-                "What WHAT is: frame, block, image, log or journal",
+                "What WHAT is: frame, block, image, log, journal or ledger",
             ),
             Argument::Needed(
                 Reference,
                 "WHAT",
-                "A frame or an image in hexadecimal, a key block, or the file of a log or a journal",
+                "A frame or an image in hexadecimal, a key block, or the file of a log, a journal or a ledger",
             ),
             Argument::Flag(
                 "show",
@@ -78,7 +79,7 @@ pub(crate) fn fits(request: &Request<'_>) -> bool
 const CONFLICT: &str =
     "'--key <BDK>' requires the KIND frame, and '--initial' requires '--key <BDK>'";
 
-/// The most bytes of a log or a journal that comes through a pipe, and of a log that a fault is
+/// The most bytes of a log, a journal or a ledger that comes through a pipe, and of a log that a fault is
 /// explained by.
 pub(crate) const LONGEST_LOG: usize = 1 << 30;
 
@@ -171,8 +172,8 @@ fn print_text<S: FileSystem, W: Sink>(
     }
 }
 
-/// What is shown of a text of its kind, or of the log or the journal in the file under a path; or
-/// why not.
+/// What is shown of a text of its kind, or of the log, the journal or the ledger in the file under a
+/// path; or why not.
 fn shown_text<S: FileSystem>(
     alloc: Global,
     files: &S,
@@ -195,6 +196,7 @@ fn shown_text<S: FileSystem>(
         "image" => image_text(alloc, what, show),
         "log" => log_text(alloc, files, what),
         "journal" => journal_text(alloc, files, what),
+        "ledger" => ledger_text(alloc, files, what),
         _ => Err(ShowFault::KindRefused),
     }
 }
@@ -282,6 +284,19 @@ fn journal_text<S: FileSystem>(alloc: Global, files: &S, path: &str) -> Result<V
     }
 }
 
+/// The text of the ledger in the file under a path.
+fn ledger_text<S: FileSystem>(alloc: Global, files: &S, path: &str) -> Result<Vec<u8>, ShowFault>
+    ensures text { IfOk result (λ text. IsLedgerFileText (S.held files.now path.now) text.items) }
+    ensures refused { IfErr result (IsLedgerFileRefused (S.held files.now path.now)) }
+{
+    match files.read_stored(alloc, path, LONGEST_LOG) {
+        Ok(bytes) => ledger_lines(alloc, bytes.as_slice()),
+        Err(FileFault::NoMemory) => Err(ShowFault::OutOfMemory),
+        Err(FileFault::TooLong) => Err(ShowFault::LedgerTooLong),
+        Err(FileFault::CannotRead) => Err(ShowFault::LedgerUnread),
+    }
+}
+
 /// The shape of what is shown of a kind.
 pub(crate) fn shape_of_kind(kind: &str) -> Shape {
     match kind {
@@ -332,7 +347,8 @@ const IMAGE: &[&str] = &["version", "iksn", "next", "register", "past"];
 const HELP: &str = "\
 Prints each field on a line, its name first. KIND says what WHAT is: `frame` a frame in hexadecimal,
 `block` a key block, `image` a terminal's image in hexadecimal, `log` the file of a log of used
-numbers, `journal` the file of a journal of payments. --show prints the keys of an image's registers.
+numbers, `journal` the file of a journal of payments, `ledger` the file of a ledger of issued keys.
+--show prints the keys of an image's registers.
 With --key, of a frame alone, `mac-expected` is its MAC under the key of its number, and `mac-check` is
 `right` or `wrong`; with --show too a request's PIN block is deciphered. A refusal has no MAC.
 Without --key nothing is deciphered and no MAC is tested.
@@ -341,7 +357,7 @@ is refused has the line of its fault in its place.
 
 WHAT and BDK are better written as @FILE (the first line of a file) or @- (of standard input): every
 user of the machine sees the words of a process, of a frame the PAN and of an image the keys. WHAT of a
-log or a journal is its path, with ./ before one that begins with @.
+log, a journal or a ledger is its path, with ./ before one that begins with @.
 
 Examples:
   $ echo 002E0101FFFF9876543210E000010D34303132333435363738393039000003E81B9C1845EB993A7A25ECC2EEB37FB551 >frame.txt
@@ -359,7 +375,7 @@ Examples:
 
 Faults, on standard error with status 1, the first alone; --explain says more:
   NAME: ..                The argument NAME as @FILE or @-: cannot read, too long, not UTF-8
-  KIND refused            KIND is not frame, block, image, log or journal
+  KIND refused            KIND is not frame, block, image, log, journal or ledger
   BDK refused             BDK is not 32 hexadecimal digits
   initial refused         The same, with --initial
   frame refused at N: ..  WHAT is no frame: the place where reading stopped, from 0, and why
@@ -370,6 +386,8 @@ Faults, on standard error with status 1, the first alone; --explain says more:
   log: ..                 WHAT is the path of a file: cannot read, too long
   journal refused at N    WHAT is a damaged journal: the same, of its records
   journal: ..             WHAT is the path of a file: cannot read, too long
+  ledger refused at N     WHAT is a damaged ledger: the same, of its records
+  ledger: ..              WHAT is the path of a file: cannot read, too long
   batch: ..               With - for WHAT: items refused, read failed
   write failed            Standard output takes no more
   out of memory           Memory was refused";

@@ -68,7 +68,7 @@ fn wanted_of(about: About<'_, '_>, name: &str) -> &'static str {
         "KEY" if enciphers || wraps(about) => DOUBLE_OR_TRIPLE,
         "KEY" if has("cmac") => DOUBLE_OR_TRIPLE,
         "BDK" | "KEY" => DOUBLE,
-        "KIND" => "frame, block, image, log or journal",
+        "KIND" => "frame, block, image, log, journal or ledger",
         "KSN" | "NUMBER" => "20 hexadecimal digits",
         "N" => "1 to 100000",
         "PAN" => "12 to 19 decimal digits",

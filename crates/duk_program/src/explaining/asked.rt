@@ -100,13 +100,15 @@ fn found_in_message<S: FileSystem>(files: &S, text: &str) -> Option<Found> {
     }
 }
 
-/// Why the log, the ledger or the journal of the request cannot be opened and locked. A journal
-/// that is copied is only read.
+/// Why the log, the ledger or the journal of the request cannot be opened and locked. One that is
+/// copied is only read.
 fn unopened_reason<S: LogFiles>(files: &S, about: &Request<'_>) -> Option<Reason>
     requires { MayUseOwn (S.may_write files.now) (S.may_make files.now) about.now }
 {
     match about.command() {
-        CommandName::CopyJournal => Some(files.opening_reason(about.text("OLD"), Access::Read)),
+        CommandName::CopyJournal | CommandName::CopyLedger => {
+            Some(files.opening_reason(about.text("OLD"), Access::Read))
+        }
         CommandName::GrowJournal => Some(files.opening_reason(about.text("FILE"), Access::Write)),
         CommandName::Issue => Some(files.opening_reason(about.text("ledger"), Access::Write)),
         CommandName::Serve => match about.value("log") {
@@ -122,17 +124,19 @@ fn unmade_reason<S: LogFiles>(files: &S, about: &Request<'_>) -> Option<Reason>
     requires { MayUseOwn (S.may_write files.now) (S.may_make files.now) about.now }
 {
     match about.command() {
-        CommandName::NewLog | CommandName::NewJournal => {
+        CommandName::NewLog | CommandName::NewJournal | CommandName::NewLedger => {
             Some(files.making_reason(about.text("FILE")))
         }
-        CommandName::CopyJournal => Some(files.making_reason(about.text("NEW"))),
+        CommandName::CopyJournal | CommandName::CopyLedger => {
+            Some(files.making_reason(about.text("NEW")))
+        }
         CommandName::Issue => Some(files.making_reason(about.value("out")?)),
         _ => None,
     }
 }
 
-/// What the log, the ledger or the journal is that is none, or else the first record of a log that
-/// is wrong, where it can be read.
+/// What the log, the ledger or the journal is that is none, or else the first record that is wrong
+/// of a log, or of a ledger that is copied, where it can be read.
 fn wrong_records<S: FileSystem + LogFiles>(
     alloc: Global,
     files: &S,
@@ -140,13 +144,21 @@ fn wrong_records<S: FileSystem + LogFiles>(
     path: &str,
     format: RecordFormat,
 ) -> Option<Found> {
-    match (strange_in(files, path, format), format) {
-        (Some(Strange::Empty), _) => Some(Found::Empty(format)),
-        (Some(Strange::Record(place)), _) => Some(Found::Foreign(place)),
-        (None, RecordFormat::Log) => {
+    match strange_in(files, path, format) {
+        Some(Strange::Empty) => Some(Found::Empty(format)),
+        Some(Strange::Record(place)) => Some(Found::Foreign(place)),
+        None if has_form_of_log(about, format) => {
             let log = files.read_again(alloc, path, LONGEST_LOG)?;
             wrong_record_in(alloc, about, log.as_slice()).map(Found::Record)
         }
-        (None, RecordFormat::Journal) => None,
+        None => None,
+    }
+}
+
+/// Whether a file has the form of a log: a log, or a ledger that is copied.
+fn has_form_of_log(about: &Request<'_>, format: RecordFormat) -> bool {
+    match (format, about.command()) {
+        (RecordFormat::Log, _) | (RecordFormat::Ledger, CommandName::CopyLedger) => true,
+        _ => false,
     }
 }

@@ -4,8 +4,8 @@ use crate::explaining::arguments::{
     counter, iksn, issue_count, key, refused, text, walk_count, wraps,
 };
 use crate::explaining::files::{
-    failed, longer, memory, name_of, of_script, of_serve, old_version, output, under, ungrown,
-    unmade, unopened, unread,
+    failed, longer, memory, name_of, new_version, of_script, of_serve, old_version, output, under,
+    ungrown, unmade, unopened, unread,
 };
 use crate::explaining::paths::File;
 use crate::explaining::seen::{Found, Seen, words};
@@ -20,6 +20,7 @@ use duk_commands::{BatchFault, Fault as CommandFault, FindFault};
 use duk_components::ComponentFault;
 use duk_pin::PinFault;
 use duk_service::copy_journal::CopyJournalFault;
+use duk_service::copy_ledger::CopyLedgerFault;
 use duk_service::grow_journal::GrowJournalFault;
 use duk_service::new_file::NewFileFault;
 use duk_service::{FileFault, Reason, RecordFormat};
@@ -62,9 +63,16 @@ pub(crate) fn of_fault(about: About<'_, '_>, why: &Fault) -> Seen {
         }
         Fault::CopyJournal(CopyJournalFault::Failed) => failed("OLD", RecordFormat::Journal),
         Fault::CopyJournal(CopyJournalFault::Unmade) => unmade("NEW", "journal"),
+        Fault::CopyLedger(CopyLedgerFault::Unopened) => {
+            unopened("OLD", "ledger", RecordFormat::Ledger)
+        }
+        Fault::CopyLedger(CopyLedgerFault::NewVersion) => new_version("OLD"),
+        Fault::CopyLedger(CopyLedgerFault::Failed) => failed("OLD", RecordFormat::Ledger),
+        Fault::CopyLedger(CopyLedgerFault::Unmade) => unmade("NEW", "ledger"),
         Fault::Identity(IdentityFault::OutOfMemory)
         | Fault::NewFile(_, NewFileFault::OutOfMemory)
-        | Fault::CopyJournal(CopyJournalFault::OutOfMemory) => memory(),
+        | Fault::CopyJournal(CopyJournalFault::OutOfMemory)
+        | Fault::CopyLedger(CopyLedgerFault::OutOfMemory) => memory(),
     }
 }
 
@@ -192,8 +200,8 @@ pub(crate) fn of_show(about: About<'_, '_>, why: ShowFault) -> Seen {
         ShowFault::FrameRefused { place, why } => frame_shown(about, place, why),
         ShowFault::BlockRefused { place, why } => block_shown(about, place, why),
         ShowFault::ImageRefused { place, why } => image_shown(about, place, why),
-        ShowFault::LogUnread | ShowFault::JournalUnread => unread("WHAT"),
-        ShowFault::LogTooLong | ShowFault::JournalTooLong => {
+        ShowFault::LogUnread | ShowFault::JournalUnread | ShowFault::LedgerUnread => unread("WHAT"),
+        ShowFault::LogTooLong | ShowFault::JournalTooLong | ShowFault::LedgerTooLong => {
             longer("WHAT").wanted("at most 1073741824 bytes")
         }
         ShowFault::LogRefused { place } => {
@@ -202,11 +210,14 @@ pub(crate) fn of_show(about: About<'_, '_>, why: ShowFault) -> Seen {
         ShowFault::JournalRefused { place } => {
             shown_record(place).wanted("32 zero bytes, or a payment as FORMATS has it")
         }
+        ShowFault::LedgerRefused { place } => {
+            shown_record(place).wanted("32 zero bytes, a header, or an issue as FORMATS has it")
+        }
         ShowFault::OutOfMemory => memory(),
     }
 }
 
-/// A log or a journal that is shown.
+/// A log, a journal or a ledger that is shown.
 fn shown_record(place: usize) -> Seen {
     under("WHAT", "WHAT", Found::Record(place as u64))
 }
@@ -251,14 +262,15 @@ fn of_issue(about: About<'_, '_>, why: IssueFault) -> Seen {
             "a key with the check value KCV; kcv prints that of a key",
         ),
         IssueFault::PaddingUnread => random_device(),
-        IssueFault::LedgerUnopened => unopened("ledger", "ledger", RecordFormat::Log),
+        IssueFault::LedgerUnopened => unopened("ledger", "ledger", RecordFormat::Ledger),
         IssueFault::OutUnmade => unmade("out", "out"),
         IssueFault::LedgerFailed => ledger(Found::Words("a step of its device failed")).wanted(
             "a device that works; the next number may stand in it",
         ),
+        IssueFault::LedgerOldVersion => old_version("ledger", RecordFormat::Ledger),
         IssueFault::LedgerDamaged => {
-            ledger(Found::Records(RecordFormat::Log, "numbers that no ledger has")).wanted(
-                "initial key serial numbers",
+            ledger(Found::Records(RecordFormat::Ledger, "records that no ledger has")).wanted(
+                "a ledger as it was kept",
             )
         }
         IssueFault::Issued(first) => {
@@ -276,7 +288,7 @@ fn of_issue(about: About<'_, '_>, why: IssueFault) -> Seen {
             .wanted("numbers that do; without --again it is issued")
         }
         IssueFault::LedgerFull => {
-            ledger(Found::Words("too little room")).wanted("16 bytes of zeros for each number")
+            ledger(Found::Words("too little room")).wanted("32 bytes of zeros for each number")
         }
         IssueFault::OutOfMemory => memory(),
         IssueFault::WriteFailed => output().of(File::Under("out")),

@@ -83,6 +83,7 @@ pub(crate) fn name_of(format: RecordFormat) -> &'static str {
     match format {
         RecordFormat::Log => "log",
         RecordFormat::Journal => "journal",
+        RecordFormat::Ledger => "ledger",
     }
 }
 
@@ -111,22 +112,32 @@ pub(crate) fn unopened(argument: &'static str, name: &'static str, format: Recor
     under(argument, name, Found::Unopened(Reason::Other)).wanted(match format {
         RecordFormat::Log => "a log, as new-log makes one, that no other uses",
         RecordFormat::Journal => "a journal, as new-journal makes one, that no other uses",
+        RecordFormat::Ledger => "a ledger, as new-ledger makes one, that no other uses",
     })
 }
 
-/// A log or a journal that failed.
+/// A log, a journal or a ledger that failed.
 pub(crate) fn failed(argument: &'static str, format: RecordFormat) -> Seen {
     let found = Found::Records(format, "wrong records, or a step that failed");
     under(argument, name_of(format), found).wanted(match format {
         RecordFormat::Log => "a log as it was kept, on a device that works",
         RecordFormat::Journal => "a journal as it was kept, on a device that works",
+        RecordFormat::Ledger => "a ledger as it was kept, on a device that works",
     })
 }
 
-/// A journal of version 1.
+/// A journal or a ledger of version 1.
 pub(crate) fn old_version(argument: &'static str, format: RecordFormat) -> Seen {
-    under(argument, name_of(format), Found::Words("version 1")).wanted(
-        "one of version 2; make it by dukpt copy-journal OLD NEW",
+    under(argument, name_of(format), Found::Words("version 1")).wanted(match format {
+        RecordFormat::Ledger => "one of version 2; make it by dukpt copy-ledger OLD NEW",
+        _ => "one of version 2; make it by dukpt copy-journal OLD NEW",
+    })
+}
+
+/// A ledger of version 2, which needs no copy.
+pub(crate) fn new_version(argument: &'static str) -> Seen {
+    under(argument, "ledger", Found::Words("version 2")).wanted(
+        "one of version 1; issue takes this one as it is",
     )
 }
 

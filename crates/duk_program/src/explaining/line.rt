@@ -90,6 +90,7 @@ fn way(seen: &Seen) -> &'static str {
     match seen.found {
         Found::Empty(RecordFormat::Log) => "; make it by dukpt new-log FILE RECORDS",
         Found::Empty(RecordFormat::Journal) => "; make it by dukpt new-journal FILE RECORDS",
+        Found::Empty(RecordFormat::Ledger) => "; make it by dukpt new-ledger FILE RECORDS",
         Found::Text(16, None) if seen.name.ends_with("KSN") => "; write FFFF before it",
         _ => "",
     }

@@ -16,7 +16,8 @@ Said = List ℕ × List (List ℕ)
 abbrev pub names_of_many : List (List ℕ)
 names_of_many =
     codes "step" ∷ codes "register" ∷ codes "past" ∷ codes "optional-block" ∷ codes "terminal"
-    ∷ codes "payment" ∷ codes "reversal" ∷ codes "component" ∷ codes "component-kcv" ∷ codes "component-cmac" ∷ []
+    ∷ codes "payment" ∷ codes "reversal" ∷ codes "issued" ∷ codes "component" ∷ codes "component-kcv"
+    ∷ codes "component-cmac" ∷ []
 
 abbrev pub may_come_again : List ℕ → Bool
 may_come_again name = list_any (bytes_eq name) names_of_many

@@ -29,6 +29,7 @@ pub(crate) fn may_come_again(name: &str) -> bool
         | "terminal"
         | "payment"
         | "reversal"
+        | "issued"
         | "component"
         | "component-kcv"
         | "component-cmac" => true,

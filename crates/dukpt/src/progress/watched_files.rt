@@ -19,7 +19,7 @@ use std::rt::Files;
 /// The bytes of a record of a log.
 const LOG_RECORD: u64 = 16;
 
-/// The bytes of a record of a journal.
+/// The bytes of a record of a journal or a ledger.
 const JOURNAL_RECORD: u64 = 32;
 
 /// The files of a runtime, which make nothing known. Of a new one the lines or the records are

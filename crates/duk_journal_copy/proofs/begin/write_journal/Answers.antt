@@ -1,81 +1,19 @@
-use Rattle.std.proofs.Common.{◌≡◌, ◌∙◌, ◌-◌, ◌≤◌, ℕ, [], ap, arith, length, replicate, sym}
-use Rattle.duk_journal.specs.Header.{header_of, journal_kind}
-use Rattle.duk_journal_copy.specs.inner.Blank.{LeavesOutside}
-use Rattle.duk_journal_copy.specs.inner.Head.{HasRestOf}
-use Rattle.duk_store.specs.Disk.{written}
-use Rattle.duk_journal_copy.proofs.Begun.{begun_bytes, begun_keeps, begun_of, in_front, rest_of_begun}
-use Rattle.duk_journal_copy.proofs.HeaderBytes.{gate_in, mark_in, third_in}
-use Rattle.duk_journal_copy.proofs.InPart.{in_part_behind, in_part_settled}
+use Rattle.std.proofs.Common.{[]}
+use Rattle.duk_journal.specs.Header.{journal_kind}
+use Rattle.duk_journal_copy.specs.Blank.{begun_bytes}
+use Rattle.duk_journal_copy.proofs.Begun.{begun_keeps, journal_begun}
+use Rattle.duk_journal_copy.proofs.InPart.{journal_in_part}
 use Rattle.duk_journal_copy.proofs.Results.{on_ok}
-use Rattle.duk_journal_copy.proofs.WrittenDisks.{keeps_on, outside_then, outside_wider}
-use Rattle.duk_journal_copy.proofs.WrittenLists.{differs_then, whole_by_head}
 use Rattle.duk_journal_copy.proofs.begin.write_journal.Goals as goal
 
-pub returns-in_err-write_front-clause-in_part : goal.returns-in_err-write_front-clause-in_part
-returns-in_err-write_front-clause-in_part g c =
+pub returns : goal.returns
+returns g c =
     let old = g.D.Disk.meaning.state_of c.args.disk.now in
-    let front = g.D.Disk.meaning.state_of c.write_front.new.disk in
-    in_part_behind [] 32 old front c.write_front.ensures.outside
-
-pub returns-in_err-write_synced-clause-in_part : goal.returns-in_err-write_synced-clause-in_part
-returns-in_err-write_synced-clause-in_part g c =
-    let old = g.D.Disk.meaning.state_of c.args.disk.now in
-    let front = g.D.Disk.meaning.state_of c.write_front.new.disk in
-    let mid = g.D.Disk.meaning.state_of c.write_synced.new.disk in
-    let size = c.size-size.result in
-    let room : 32 ≤ size = omega (arith, c.size-size.ensures, c.requires.room) in
-    in_part_behind [] size old mid
-    (outside_then 2 size old front mid c.write_front.ensures.nature
-    (outside_wider 2 size 2 30 old front (omega arith) (omega (arith, room)) c.write_front.ensures.outside)
-    (outside_wider 2 size 32 (size - 32) front mid (omega arith) (omega (arith, room)) c.write_synced.ensures.outside))
-
-pub returns-clause-begun : goal.returns-clause-begun
-returns-clause-begun g c =
-    let old = g.D.Disk.meaning.state_of c.args.disk.now in
-    let front = g.D.Disk.meaning.state_of c.write_front.new.disk in
-    let mid = g.D.Disk.meaning.state_of c.write_synced.new.disk in
-    let new = g.D.Disk.meaning.state_of c.settle_head.new.disk in
-    let first = c.in_ok-write_front.ensures.written in
-    let second = c.in_ok-write_synced.ensures.written in
-    let size_is : c.size-size.result ≡ old.size = c.size-size.ensures in
-    on_ok _ _ c.settle_head.result
-    (λ settled. begun_of c.args.identity old new c.write_front.ensures.fits c.requires.room
-    (keeps_on old front new first.nature (keeps_on front mid new second.written.nature settled.nature))
-    (settled.no_failure ∙ second.written.no_failure ∙ first.no_failure)
-    (λ h.
-    let h1 = first.nature.honest.0 h in
-    let h2 = second.written.nature.honest.0 h1 in
-    let long : length old.reads ≡ old.size = g.D.Disk.leaves_its_size c.args.disk.now h old.reads (g.D.Disk.reads_may_stay c.args.disk.now h) in
-    let rest : HasRestOf (begun_bytes c.args.identity old.size) mid.reads =
-    rest_of_begun c.args.identity old.size c.requires.room old.reads front.reads mid.reads long (first.front h)
-    (second.written.zeros h1 ∙ ap (λ (n : ℕ). written front.reads 32 (replicate (n - 32) 0)) size_is) in
-    whole_by_head (begun_bytes c.args.identity old.size) new.reads (differs_then 0 2 (begun_bytes c.args.identity old.size) mid.reads new.reads rest (settled.rest h2))
-    (settled.gate_is h2 ∙ sym (in_front c.args.identity old.size c.requires.room 0 (omega arith) ∙ gate_in journal_kind c.args.identity))
-    (settled.mark_is h2 ∙ sym (in_front c.args.identity old.size c.requires.room 1 (omega arith) ∙ mark_in journal_kind c.args.identity)))
-    (λ h. settled.leaves (second.written.nature.honest.0 (first.nature.honest.0 h)) (second.leaves (first.nature.honest.0 h))))
-    c.settle_head.ensures.settled
-
-pub returns-clause-in_part : goal.returns-clause-in_part
-returns-clause-in_part g c =
-    let old = g.D.Disk.meaning.state_of c.args.disk.now in
-    let front = g.D.Disk.meaning.state_of c.write_front.new.disk in
-    let mid = g.D.Disk.meaning.state_of c.write_synced.new.disk in
-    let new = g.D.Disk.meaning.state_of c.settle_head.new.disk in
-    let size = c.size-size.result in
-    let room : 32 ≤ size = omega (arith, c.size-size.ensures, c.requires.room) in
-    let first = c.in_ok-write_front.ensures.written in
-    let second = c.in_ok-write_synced.ensures.written in
-    let outside : LeavesOutside 2 size old mid =
-    outside_then 2 size old front mid c.write_front.ensures.nature
-    (outside_wider 2 size 2 30 old front (omega arith) (omega (arith, room)) c.write_front.ensures.outside)
-    (outside_wider 2 size 32 (size - 32) front mid (omega arith) (omega (arith, room)) c.write_synced.ensures.outside) in
-    let rest : old.honest → HasRestOf (begun_bytes c.args.identity old.size) mid.reads = λ h.
-    let long : length old.reads ≡ old.size = g.D.Disk.leaves_its_size c.args.disk.now h old.reads (g.D.Disk.reads_may_stay c.args.disk.now h) in
-    rest_of_begun c.args.identity old.size c.requires.room old.reads front.reads mid.reads long (first.front h)
-    (second.written.zeros (first.nature.honest.0 h) ∙ ap (λ (n : ℕ). written front.reads 32 (replicate (n - 32) 0)) c.size-size.ensures) in
-    in_part_settled size old mid new (keeps_on old front mid first.nature second.written.nature) outside (λ h. second.leaves (first.nature.honest.0 h))
-    [] (begun_bytes c.args.identity old.size) (λ h. begun_keeps c.args.identity old.size c.requires.room c.write_front.ensures.fits)
-    (in_front c.args.identity old.size c.requires.room 0 (omega arith) ∙ gate_in journal_kind c.args.identity)
-    (in_front c.args.identity old.size c.requires.room 1 (omega arith) ∙ mark_in journal_kind c.args.identity)
-    (in_front c.args.identity old.size c.requires.room 2 (omega arith) ∙ third_in journal_kind c.args.identity)
-    rest c.settle_head.ensures.in_turn
+    let new = g.D.Disk.meaning.state_of c.begin_file.new.disk in
+    let fits = c.begin_file.ensures.identity_fits in
+    record {
+      begun = on_ok _ _ c.begin_file.result (λ begun. journal_begun c.args.identity old new fits c.requires.room begun) c.begin_file.ensures.begun;
+      failed = c.begin_file.ensures.failed;
+      in_part = journal_in_part [] (begun_bytes journal_kind c.args.identity old.size) old new
+          (λ h. begun_keeps c.args.identity old.size c.requires.room fits) c.begin_file.ensures.in_part;
+    }

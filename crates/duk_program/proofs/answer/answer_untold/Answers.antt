@@ -9,7 +9,7 @@ use Rattle.duk_program.proofs.answer.answer_untold.Goals as goal
 
 pub do_command-requires : goal.do_command-requires
 do_command-requires g c = subst IsOverArguments c.command.ensures (over_arguments c.command.result (subst TellsNothing (sym c.command.ensures) c.requires.untold)
-    c.in_default.not-Run c.in_default.not-Serve c.in_default.not-NewLog c.in_default.not-NewJournal c.in_default.not-GrowJournal c.in_default.not-CopyJournal c.in_default.not-Show c.in_default.not-Lmk)
+    c.in_default.not-Run c.in_default.not-Serve c.in_default.not-NewLog c.in_default.not-NewJournal c.in_default.not-NewLedger c.in_default.not-GrowJournal c.in_default.not-CopyJournal c.in_default.not-CopyLedger c.in_default.not-Show c.in_default.not-Lmk)
 
 pub returns-in_default : goal.returns-in_default
 returns-in_default g c =
@@ -20,7 +20,7 @@ returns-in_default g c =
     let streams = serving_of g.R.Source.known g.R.Source.reads g.W.Sink.known c.args.input.now c.args.input.now c.args.output.now c.do_command.new.output in
     let s = scene (g.S.FileSystem.held c.args.files.now) (g.S.LogFiles.disks c.args.files.now) (g.S.LogFiles.making c.args.files.now) streams in
     let over = subst IsOverArguments c.command.ensures (over_arguments c.command.result (subst TellsNothing (sym c.command.ensures) c.requires.untold)
-    c.in_default.not-Run c.in_default.not-Serve c.in_default.not-NewLog c.in_default.not-NewJournal c.in_default.not-GrowJournal c.in_default.not-CopyJournal c.in_default.not-Show c.in_default.not-Lmk) in
+    c.in_default.not-Run c.in_default.not-Serve c.in_default.not-NewLog c.in_default.not-NewJournal c.in_default.not-NewLedger c.in_default.not-GrowJournal c.in_default.not-CopyJournal c.in_default.not-CopyLedger c.in_default.not-Show c.in_default.not-Lmk) in
     let none = subst HasNoMessage c.command.ensures (no_message c.command.result c.in_default.not-Mac c.in_default.not-Data) in
     record {
       done = λ old new. on_ok (IsCommandDone asked before after) (IsDoneUntold meaning (s old new) asked.command asked) c.do_command.result

@@ -21,14 +21,14 @@ one_more commands i d within =
     ∙ ap given (map-append shape_named (take i commands) (get_or commands i d ∷ []))
     ∙ fold-append with_subcommand _ (map shape_named (take i commands)) _
 
-are_all : (commands : List CommandName) (i : ℕ) → commands ≡ all_commands → i ≡ 24
+are_all : (commands : List CommandName) (i : ℕ) → commands ≡ all_commands → i ≡ 26
     → given (map shape_named (take i commands)) ≡ command_line
 are_all commands i are all =
     ap₂ (λ (n : ℕ) (xs : List CommandName). given (map shape_named (take n xs))) all are
 
 pub loop-command-preserved : goal.loop-command-preserved
 loop-command-preserved c =
-    let count : length c.all_commands.result ≡ 24 = ap length c.all_commands.ensures in
+    let count : length c.all_commands.result ≡ 26 = ap length c.all_commands.ensures in
     let more = one_more c.all_commands.result c.loop-command.command-index _ (omega (arith, count, c.loop-command-test.true)) in
     let made = c.in_ok-command_of.ensures in
     c.in_ok-program.ensures.shape made.1

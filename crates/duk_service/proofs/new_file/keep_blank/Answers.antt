@@ -11,7 +11,7 @@ write_anew-requires-clause-size g c =
     subst (λ (n : ℕ). IsSizeOf c.args.new n) is c.requires.size
 
 pub returns-then-size-clause-left : goal.returns-then-size-clause-left
-returns-then-size-clause-left g c = left_as_made c.unfinished.ensures c.args.new (g.S.Disk.Disk.meaning.state_of c.args.disk.now) c.requires.begins
+returns-then-size-clause-left g c = left_as_made c.unfinished.ensures c.unheaded.ensures c.unnumbered.ensures c.args.new (g.S.Disk.Disk.meaning.state_of c.args.disk.now) c.requires.begins
 
 pub returns-clause-kept : goal.returns-clause-kept
 returns-clause-kept g c =
@@ -23,7 +23,7 @@ returns-clause-kept g c =
     (λ synced. record {
       size_is = sym is;
       written = c.in_ok-write_anew.ensures.written;
-      blank = nothing_yet c.args.new old last (subst (λ (n : ℕ). IsSizeOf c.args.new n) is c.requires.size) c.in_ok-write_anew.ensures.written;
+      blank = nothing_yet c.headers.ensures.length c.args.new old last (subst (λ (n : ℕ). IsSizeOf c.args.new n) is c.requires.size) c.in_ok-write_anew.ensures.written;
       synced = synced;
     })
     c.sync_folder.ensures.synced

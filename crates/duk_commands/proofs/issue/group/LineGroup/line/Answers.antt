@@ -20,6 +20,19 @@ returns-clause-line c =
     record {
       block = bytes_at group.blocks lane;
       is_block = is.is_block;
-      line_is = c.line_of.ensures (initial_key_at order place) is.is_value
+      line_is = c.line_of-line.ensures (initial_key_at order place) is.is_value
           ∙ ap (λ iksn. issued_line iksn (bytes_at group.blocks lane) (initial_key_at order place)) c.iksn_at.ensures;
     }
+
+pub returns-clause-value : goal.returns-clause-value
+returns-clause-value c =
+    let order = c.args.order.now in
+    let place = c.args.place in
+    let base = place / 128 * 128 in
+    let lane = place - base in
+    let group = c.hold_from.new.self in
+    let there : AreFrom order c.args.padding.now base group.blocks group.values =
+    subst (λ first. IfSome first (λ base. AreFrom order c.args.padding.now base group.blocks group.values)) c.hold_from.ensures.base c.hold_from.ensures.group in
+    let at : base + lane ≡ place = omega arith in
+    (subst (λ p. AreOfPlace order c.args.padding.now p (bytes_at group.blocks lane) (bytes_at group.values lane)) at
+    (there lane (omega arith) (omega (arith, at, c.requires.place)))).is_value

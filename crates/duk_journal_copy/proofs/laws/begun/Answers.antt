@@ -1,0 +1,8 @@
+use Rattle.duk_journal_copy.proofs.Begun.{begun_closed, header_first}
+use Rattle.duk_journal_copy.proofs.laws.begun.Goals as goal
+
+pub returns : goal.returns
+returns c = record {
+  header = header_first;
+  closed = λ kind identity size later room past. begun_closed kind identity size room later past;
+}

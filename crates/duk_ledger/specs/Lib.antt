@@ -1,0 +1,4 @@
+pub mod Issued
+pub mod IssuedFormat
+pub mod Ledger
+pub mod inner
