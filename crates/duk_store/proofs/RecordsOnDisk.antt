@@ -6,7 +6,7 @@ use Rattle.std.proofs.lemmas.List.{append-nil, get_or-drop, get_or-replicate, ge
 use Rattle.std.specs.List.{slice_get}
 use Rattle.duk_store.specs.Disk.{DiskMeaning, DiskState, LeavesReads, LeavesWithin, PreservesBytes, PreservesDisk, ReadsMayStay}
 use Rattle.duk_store.specs.Restart.{IsRestartFault}
-use Rattle.duk_store.specs.StoreState.{IsNew, KeepsNothing, Stops}
+use Rattle.duk_store.specs.StoreState.{FindsOnly, IsNew, KeepsNothing, Stops}
 use Rattle.duk_store.specs.declared.fault.StoreFault.{StoreFault}
 use Rattle.duk_store.specs.DiskRecords.{IsBlankDisk, IsEmptyDisk, IsFreshDisk, IsHeaderOf, IsSoundDisk, IsZeroDisk, MayFindItems, RecordsOf, are_running, count_in, records_meaning, records_state}
 use Rattle.duk_store.specs.Format.{FormatMeaning, IsFormat}
@@ -289,6 +289,14 @@ module _ {I : Type 0} (format : FormatMeaning I) (identity : ℕ) (disk : DiskSt
   pub leaves_one : (kept : Option ℕ) → KnowsRecords format identity disk kept → are_running kept ≡ true → disk.honest → LeavesReads disk
   leaves_one None knows runs honest = absurd (false≢true runs)
   leaves_one (Some count) knows runs honest = (knows.holds honest).leaves
+
+  -- so many items as are counted are those that a restart finds
+  pub counts_found : IsFormat format → (kept : Option ℕ) → KnowsRecords format identity disk kept → are_running kept ≡ true → disk.honest
+      → (items : List I) × FindsOnly (records_state format disk kept) items × (length items ≡ count_in kept)
+  counts_found laws None knows runs honest = absurd (false≢true runs)
+  counts_found laws (Some count) knows runs honest =
+      let holds = knows.holds honest in
+      (holds.items, finds_list format laws disk disk.reads holds.items holds.leaves holds.keeps, holds.counted)
 
 -- ---- the same of records
 

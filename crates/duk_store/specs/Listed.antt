@@ -30,6 +30,13 @@ room_of meaning listed =
     then meaning.capacity listed - meaning.count listed
     else 0
 
+-- an honest list that runs counts what a restart would find, which is one list
+abbrev pub CountsFound : {L I : Type 0} → ListMeaning L I → L → Type 0
+CountsFound {L} {I} meaning listed =
+    (meaning.state_of listed).running ≡ true → (meaning.state_of listed).honest
+    → (items : List I) × FindsOnly (meaning.state_of listed) items
+    × (length items ≡ meaning.count listed)
+
 -- the list that a restart found: what it would find now, and could find before
 pub record IsListFound {I : Type 0} (old new : StoreState (List I)) (items : List I) : Type 0 where
   pub finds : FindsOnly new items

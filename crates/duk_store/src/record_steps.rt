@@ -3,7 +3,7 @@
 ghost use Rattle.std.specs.Prelude.{◌≡◌, ◌*◌, ◌+◌, ◌<◌, ◌≤◌, ◌^◌, ◌↔◌, ℕ, true, length, IfErr, IfOk, OnOk};
 ghost use Rattle.duk_store.specs.Format.{IsFormat};
 ghost use Rattle.duk_store.specs.Records.{HasHeader, IsRecordsSize, record_at};
-ghost use Rattle.duk_store.specs.Disk.{StaysArmed};
+ghost use Rattle.duk_store.specs.Disk.{PreservesBytes, PreservesDisk, StaysArmed};
 ghost use Rattle.duk_store.specs.inner.GroupSteps.{HasRecords};
 ghost use Rattle.duk_store.specs.inner.Reading.{kept_in};
 ghost use Rattle.duk_store.specs.declared.reading.Reading.TheVariants.{Groups};
@@ -158,6 +158,8 @@ pub fn read_record<D: Disk>(disk: &mut D, place: u64, bytes: &mut [u8]) -> Resul
     ensures failed { IfErr result
         (RecordUnread (D.meaning.state_of disk.old) (D.meaning.state_of disk.new)) }
     ensures arming { StaysArmed (D.meaning.state_of disk.old) (D.meaning.state_of disk.new) }
+    ensures nature { PreservesDisk (D.meaning.state_of disk.old) (D.meaning.state_of disk.new) }
+    ensures bytes { PreservesBytes (D.meaning.state_of disk.old) (D.meaning.state_of disk.new) }
     ensures length { length bytes.new ≡ length bytes.old }
 {
     disk.read_at(bytes.len() as u64 * place, bytes)

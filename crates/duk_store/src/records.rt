@@ -1,10 +1,10 @@
 //! A list of items in the records of a disk, and the device calls of an append.
 
 ghost use Rattle.std.specs.Prelude.{◌≡◌, ◌+◌, ◌*◌, ◌<◌, ◌≤◌, ℕ, List, [], true, length, IfErr, IfOk, OnOk};
-ghost use Rattle.duk_store.specs.Disk.{LeavesReads, LeavesWithin, StaysArmed};
+ghost use Rattle.duk_store.specs.Disk.{LeavesReads, LeavesWithin, PreservesBytes, PreservesDisk, StaysArmed};
 ghost use Rattle.duk_store.specs.StoreState.{IsNew, KeepsNothing, StaysButCalm};
 ghost use Rattle.duk_store.specs.DiskRecords.{IsBlankDisk, IsEmptyDisk, IsFreshDisk, IsZeroDisk, are_running, count_in, new_records, records_meaning};
-ghost use Rattle.duk_store.specs.Listed.{GroupAppendFailed, IsGroupAppended, IsItemRead, ItemReadFailed, ListRestartFailed, ListRestarted, length_of, room_of};
+ghost use Rattle.duk_store.specs.Listed.{CountsFound, GroupAppendFailed, IsGroupAppended, IsItemRead, ItemReadFailed, ListRestartFailed, ListRestarted, length_of, room_of};
 ghost use Rattle.duk_store.specs.Records.{HasContents, IsGroup, identity_in};
 
 use crate::disk::Disk;
@@ -128,9 +128,11 @@ impl<D: Disk, F: Format> Records<D, F> {
         Ok(found.count)
     }
 
-    /// How many items are kept; none while the records are stopped.
+    /// How many items are kept; none while the records are stopped. Of an honest disk, so many are
+    /// those that a restart would find.
     pub fn len(&self) -> u64
-        ensures { result ≡ length_of (records_meaning D.meaning F.meaning) self.now }
+        ensures counted { result ≡ length_of (records_meaning D.meaning F.meaning) self.now }
+        ensures found { CountsFound (records_meaning D.meaning F.meaning) self.now }
     {
         match self.kept {
             None => 0,
@@ -152,7 +154,8 @@ impl<D: Disk, F: Format> Records<D, F> {
         }
     }
 
-    /// Reads the record of the item at a place of the list, counted from 0, into all of `bytes`.
+    /// Reads the record of the item at a place of the list, counted from 0, into all of `bytes`. No
+    /// byte of the disk changes, also where this fails.
     ///
     /// Refused with `Stopped` where the records are stopped, which changes nothing, and with
     /// `Device` where a device step failed, which stops them.
@@ -174,6 +177,10 @@ impl<D: Disk, F: Format> Records<D, F> {
         ensures failed { IfErr result (ItemReadFailed (records_meaning D.meaning F.meaning)
             self.old self.new) }
         ensures arming { StaysArmed (D.meaning.state_of self.old.disk)
+            (D.meaning.state_of self.new.disk) }
+        ensures nature { PreservesDisk (D.meaning.state_of self.old.disk)
+            (D.meaning.state_of self.new.disk) }
+        ensures bytes { PreservesBytes (D.meaning.state_of self.old.disk)
             (D.meaning.state_of self.new.disk) }
         ensures format { self.new.format ≡ self.old.format }
         ensures length { length bytes.new ≡ length bytes.old }
