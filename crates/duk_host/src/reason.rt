@@ -6,7 +6,7 @@ ghost use Rattle.duk_host.specs.inner.Handle.{IsRefusalVerdict};
 ghost use Rattle.duk_host.specs.Judgement.{reason_number, refusal_frame};
 
 use crate::answered::{Answered, Verdict};
-use duk_frame::write_refusal;
+use duk_frame::{Frame, write_refusal};
 use duk_tree::Ksn;
 
 /// Why a request is refused, in the order in which the reasons are tested.
@@ -22,7 +22,7 @@ pub enum Reason {
     BadMac,
     /// Its number is used.
     Used,
-    /// The log has no room.
+    /// What the host keeps has no room.
     LogFull,
 }
 
@@ -41,15 +41,24 @@ impl Reason {
         }
     }
 
-    /// The refusal of a request with this key serial number.
+    /// The refusal of what uses this key serial number.
+    pub fn refusal(self, ksn: Ksn) -> Frame
+        ensures { result.items ≡ refusal_frame (serial_bytes ksn) self }
+    {
+        write_refusal(ksn.bytes(), self.number())
+    }
+
+    /// The answer to a request with this key serial number, which is refused.
     pub(crate) fn answer(self, ksn: Ksn) -> Answered
         ensures frame { result.frame.items ≡ refusal_frame (serial_bytes ksn) self }
         ensures reported { IsRefusalVerdict result.frame.items result.says }
     {
-        let reason = self.number();
         Answered {
-            frame: write_refusal(ksn.bytes(), reason),
-            says: Verdict::Refused { ksn, reason },
+            frame: self.refusal(ksn),
+            says: Verdict::Refused {
+                ksn,
+                reason: self.number(),
+            },
         }
     }
 }
