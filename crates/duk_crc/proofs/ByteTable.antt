@@ -5,7 +5,7 @@ use Rattle.std.proofs.lemmas.Nat.{xor_comm, xor_mod, xor_shr}
 use Rattle.std.specs.Int.Bits.{xor_assoc, xor_shifted, xor_zero_r}
 use Rattle.duk_crc.specs.Crc32.{carried, shifted, times_x, with_byte}
 
-exchanged : (a b c d : ℕ) → bit_xor (bit_xor a b) (bit_xor c d) ≡ bit_xor (bit_xor a c) (bit_xor b d)
+pub exchanged : (a b c d : ℕ) → bit_xor (bit_xor a b) (bit_xor c d) ≡ bit_xor (bit_xor a c) (bit_xor b d)
 exchanged a b c d =
     xor_assoc a b (bit_xor c d)
     ∙ ap (bit_xor a) (sym (xor_assoc b c d) ∙ ap (λ (n : ℕ). bit_xor n d) (xor_comm b c) ∙ xor_assoc c b d)
@@ -28,7 +28,7 @@ times_sum a b =
     ∙ ap (bit_xor (bit_xor (a / 2) (b / 2))) (carried_sum (a % 2) (b % 2) (omega arith) (omega arith))
     ∙ exchanged (a / 2) (b / 2) (carried (a % 2)) (carried (b % 2))
 
-shifted_sum : (power a b : ℕ) → shifted power (bit_xor a b) ≡ bit_xor (shifted power a) (shifted power b)
+pub shifted_sum : (power a b : ℕ) → shifted power (bit_xor a b) ≡ bit_xor (shifted power a) (shifted power b)
 shifted_sum zero a b = refl
 shifted_sum (suc power) a b = ap times_x (shifted_sum power a b) ∙ times_sum (shifted power a) (shifted power b)
 
@@ -53,15 +53,29 @@ by_table remainder byte =
     sym (ap (shifted 8) parts ∙ shifted_sum 8 (sum / 256 * 2 ^ 8) (sum % 256) ∙ ap (λ (n : ℕ). bit_xor n (shifted 8 (sum % 256))) (moved_down 8 (sum / 256)))
 
 -- what some bytes leave, from one on
-abbrev pub left_from : ℕ → ℕ → List ℕ
-left_from zero byte = []
-left_from (suc count) byte = shifted 8 byte ∷ left_from count (suc byte)
+abbrev pub left_from : ℕ → ℕ → ℕ → List ℕ
+left_from power zero byte = []
+left_from power (suc count) byte = shifted power byte ∷ left_from power count (suc byte)
 
-pub left_at : (count first place : ℕ) → place < count → get_or (left_from count first) place 0 ≡ shifted 8 (first + place)
-left_at zero first place less = absurd (omega (arith, less))
-left_at (suc count) first zero less =
+pub left_at : (power count first place : ℕ) → place < count → get_or (left_from power count first) place 0 ≡ shifted power (first + place)
+left_at power zero first place less = absurd (omega (arith, less))
+left_at power (suc count) first zero less =
     let same : first ≡ first + 0 = omega arith in
-    ap (shifted 8) same
-left_at (suc count) first (suc place) less =
+    ap (shifted power) same
+left_at power (suc count) first (suc place) less =
     let same : suc first + place ≡ first + suc place = omega arith in
-    left_at count (suc first) place (omega (arith, less)) ∙ ap (shifted 8) same
+    left_at power count (suc first) place (omega (arith, less)) ∙ ap (shifted power) same
+
+-- the tables of some powers, from one on
+abbrev pub tables_from : ℕ → ℕ → List (List ℕ)
+tables_from zero following = []
+tables_from (suc count) following = left_from (8 * (following + 1)) 256 0 ∷ tables_from count (suc following)
+
+pub table_at : (count first place : ℕ) → place < count → get_or (tables_from count first) place [] ≡ left_from (8 * (first + place + 1)) 256 0
+table_at zero first place less = absurd (omega (arith, less))
+table_at (suc count) first zero less =
+    let same : 8 * (first + 1) ≡ 8 * (first + 0 + 1) = omega arith in
+    ap (λ (power : ℕ). left_from power 256 0) same
+table_at (suc count) first (suc place) less =
+    let same : 8 * (suc first + place + 1) ≡ 8 * (first + suc place + 1) = omega arith in
+    table_at count (suc first) place (omega (arith, less)) ∙ ap (λ (power : ℕ). left_from power 256 0) same

@@ -1,2 +1,3 @@
 mod ByteTable
+mod EightBytes
 mod OneByte

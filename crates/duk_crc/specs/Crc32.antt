@@ -28,7 +28,10 @@ shifted (suc power) remainder = times_x (shifted power remainder)
 abbrev pub with_byte : ℕ → ℕ → ℕ
 with_byte remainder byte = shifted 8 (bit_xor remainder byte)
 
--- the check sum of bytes: the first 32 coefficients are complemented before the division, and all of
--- the remainder behind it
+-- what the division of bytes leaves: the first 32 coefficients are complemented before it
+abbrev pub remainder_of : List ℕ → ℕ
+remainder_of bytes = fold with_byte (2 ^ 32 - 1) bytes
+
+-- the check sum of bytes: all of the remainder is complemented behind the division
 abbrev pub crc32 : List ℕ → ℕ
-crc32 bytes = 2 ^ 32 - 1 - fold with_byte (2 ^ 32 - 1) bytes
+crc32 bytes = 2 ^ 32 - 1 - remainder_of bytes

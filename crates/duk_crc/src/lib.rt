@@ -5,5 +5,6 @@
 
 mod checksum;
 pub mod laws;
+mod table;
 
-pub use checksum::crc32;
+pub use checksum::{Division, crc32};

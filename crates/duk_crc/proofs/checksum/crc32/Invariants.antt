@@ -1,7 +1,0 @@
-use Rattle.std.proofs.Common.{◌≡◌, ◌-◌, ◌^◌, fold, take}
-use Rattle.duk_crc.specs.Crc32.{with_byte}
-use Rattle.duk_crc.proofs.checksum.crc32.Given as goal
-
--- the bytes so far are divided
-abbrev pub invariant-loop-byte : goal.invariant-loop-byte
-invariant-loop-byte l = l.remainder ≡ fold with_byte (2 ^ 32 - 1) (take l.byte-index l.bytes)
