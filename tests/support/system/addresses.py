@@ -37,15 +37,17 @@ BYTE, FOUR = (re.compile(rb" L [0-9a-f]+,%d\n" % it) for it in (1, 4))
 DIGITS = (b"0123456789ABCDEF", b"0123456789abcdef")
 
 
-def left_by(byte: int) -> int:
-    """What the generator of CRC-32 leaves of a byte and eight zero bits, the lowest bit first."""
-    for _ in range(8):
+def left_by(byte: int, following: int) -> int:
+    """What the generator of CRC-32 leaves of a byte, with so many bytes and eight zero bits behind it, the
+    lowest bit first."""
+    for _ in range(8 * (following + 1)):
         byte = byte >> 1 ^ 0xEDB88320 * (byte & 1)
     return byte
 
 
-# The table of the check sums of a journal.
-CHECK_SUMS = b"".join(left_by(it).to_bytes(4, "little") for it in range(256))
+# The tables of the check sums of a journal, one behind the other.
+CHECK_SUMS = b"".join(left_by(byte, following).to_bytes(4, "little")
+                      for following in range(8) for byte in range(256))
 
 
 class Symbols:
@@ -82,7 +84,7 @@ class Symbols:
         return all(map(BYTE.fullmatch, lines)) and are_in_one(self.digits, lines)
 
     def are_check_sums(self, *lines: bytes) -> bool:
-        """Whether each of these lines reads a word of the same table of check sums."""
+        """Whether each of these lines reads a word of the same tables of check sums."""
         return all(map(FOUR.fullmatch, lines)) and are_in_one(self.check_sums, lines)
 
 
@@ -161,7 +163,7 @@ class Trace:
 @dataclass
 class Found:
     """Where two runs differ: of each function, how often an access to data has another address, and how
-    often that is one of a table of digits, or of the table of check sums; and the function in which their
+    often that is one of a table of digits, or of the tables of check sums; and the function in which their
     ways part, where the comparison ends. So many lines of their traces were compared."""
 
     addresses: Counter[str] = field(default_factory=Counter)
