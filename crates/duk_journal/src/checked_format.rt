@@ -7,14 +7,14 @@ use crate::entry::Entry;
 use crate::header::{identity_in, is_journal_header};
 use crate::record_format::{CONTENTS_LENGTH, Contents, ContentsBytes, RECORD_LENGTH, append};
 use arrayvec::ArrayVec;
-use duk_crc::crc32;
+use duk_crc::Division;
 use duk_store::Format;
 
 /// The bytes of contents that stand in front of their check sum.
 const SAID_LENGTH: usize = 26;
 
-/// The bytes that a check sum is of: an identity, a place, and what the contents say.
-const CHECKED_LENGTH: usize = 42;
+/// The bytes behind it: their check sum, and a zero.
+const BEHIND_LENGTH: usize = 5;
 
 /// The format of a journal's records, version 2.
 ///
@@ -85,8 +85,9 @@ fn is_checked(identity: u64, place: u64, contents: &[u8]) -> bool
     requires { length contents.now ≡ 31 }
     ensures { IsTrue result ↔ IsChecked identity place contents.now }
 {
-    let checked = with_check(identity, place, contents);
-    contents == checked.as_slice()
+    let mut behind = [0; BEHIND_LENGTH];
+    behind.copy_from_slice(&contents[SAID_LENGTH..]);
+    behind == check_behind(identity, place, &contents[..SAID_LENGTH])
 }
 
 /// Contents that say the same, with the check sum of the record at a place.
@@ -104,11 +105,11 @@ pub fn with_check(identity: u64, place: u64, contents: &[u8]) -> ContentsBytes
 }
 
 /// What stands behind that which contents say: the check sum, and a zero.
-fn check_behind(identity: u64, place: u64, said: &[u8]) -> [u8; 5]
+fn check_behind(identity: u64, place: u64, said: &[u8]) -> [u8; BEHIND_LENGTH]
     requires { length said.now ≡ 26 }
     ensures { result ≡ check_bytes identity place said.now }
 {
-    let mut bytes = [0; 5];
+    let mut bytes = [0; BEHIND_LENGTH];
     bytes[..4].copy_from_slice(&check_sum(identity, place, said).to_le_bytes());
     bytes
 }
@@ -118,9 +119,8 @@ fn check_sum(identity: u64, place: u64, said: &[u8]) -> u32
     requires { length said.now ≡ 26 }
     ensures { result ≡ check_of identity place said.now }
 {
-    let mut bytes = ArrayVec::<u8, CHECKED_LENGTH>::new();
-    append(&mut bytes, &identity.to_be_bytes());
-    append(&mut bytes, &place.to_be_bytes());
-    append(&mut bytes, said);
-    crc32(bytes.as_slice())
+    let division = Division::new()
+        .with(&identity.to_be_bytes())
+        .with(&place.to_be_bytes());
+    division.with(said).check_sum()
 }
