@@ -829,7 +829,9 @@ class PowerCuts(IssueCase):
 
     def begin_history(self, file: CutFile) -> None:
         self.all = numbers_from(self.random_first(FEW), FEW)
+        # What the ledger keeps, and how many of these no loss of power may take.
         self.kept: list[Kept] = []
+        self.sure = 0
         self.printed: set[int] = set()
         self.histories += 1
         file.make(ledger_image([], FEW, self.chance.getrandbits(64)))
@@ -849,18 +851,25 @@ class PowerCuts(IssueCase):
         # Now and then the process alone is gone, and the power stays on.
         stays_on = is_cut and self.chance.random() < 0.2
         image = file.image() if stays_on else file.cut(self.chance.getrandbits(32))
-        self.judge([int(line.split()[1], 16) for line in ended.output.splitlines()], image)
+        # With the power on nothing is lost, and a run that ends has told of all that it found.
+        self.judge([int(line.split()[1], 16) for line in ended.output.splitlines()], image,
+                   self.sure if is_cut and not stays_on else len(self.kept))
+        # What a kill left may have a last record whose gate was not synced.
+        self.sure = max(self.sure, len(self.kept) - 1) if stays_on else len(self.kept)
         self.cuts += is_cut and not stays_on
         self.midst += is_cut and bool(ended.output)
 
-    def judge(self, printed: Sequence[int], image: bytes) -> None:
-        kept, before = opened(image), len(self.kept)
+    def judge(self, printed: Sequence[int], image: bytes, least: int) -> None:
+        """That of what the ledger kept so many are there at least."""
+        kept = opened(image)
         if isinstance(kept, Refusal):
             raise Broken(f"what is left is no ledger: {kept.value}")
-        if kept[:before] != self.kept:
+        if len(kept) < least:
             raise Broken("the ledger lost what it kept")
-        if kept[before:] != issued_by(KEYS, numbers_of(kept[before:]), 1 + last_run(self.kept)):
-            raise Broken("the ledger has other check values, or another run")
+        new = numbers_of(kept[len(self.kept) :])
+        wanted = [*self.kept, *issued_by(KEYS, new, 1 + last_run(self.kept))]
+        if kept != wanted[: len(kept)]:
+            raise Broken("the ledger has other numbers, other check values, or another run")
         self.kept = kept
         if len(set(printed)) < len(printed) or self.printed & set(printed):
             raise Broken("a number is printed twice")
