@@ -8,9 +8,9 @@ use Rattle.duk_frame.specs.Code.{code_text}
 use Rattle.duk_frame.specs.Frame.{framed}
 use Rattle.duk_frame.specs.Stream.{IsFrame, said_length}
 use Rattle.duk_frame.specs.declared.code.Code.{Code}
-use Rattle.duk_host.specs.Judgement.{IsRefusalFor, IsReplyWith, JudgementBasis, reason_number as number_of_reason}
+use Rattle.duk_host.specs.Judgement.{IsRefusalFor, IsReplyWith, JudgementBasis, reason_number}
 use Rattle.duk_hsm.specs.Keys.{HsmKeys}
-use Rattle.duk_journal_host.specs.Judgement.{IsReversalReplyWith, IsSettled, LineBasis, reason_number, without_repeats}
+use Rattle.duk_journal_host.specs.Judgement.{IsReversalReplyWith, IsSettled, LineBasis, without_repeats}
 use Rattle.duk_journal_host.specs.Steps.{IsAnswerOf}
 use Rattle.duk_journal_host.specs.declared.settlement.Settled.{Settled}
 use Rattle.duk_journal_host.specs.declared.settlement.Settled.TheVariants as settled
@@ -108,7 +108,7 @@ refusal_for : TextLaws → (basis : JudgementBasis) (bytes frame : List ℕ) →
 refusal_for laws basis bytes frame (inl malformed) =
     subst IsFrame (sym malformed.frame_is) (refusal_is_frame (replicate 10 0) 1 (length-replicate {A = ℕ} 10 0))
 refusal_for laws basis bytes frame (inr refused) =
-    subst IsFrame (sym refused.frame_is) (refusal_is_frame (serial_bytes refused.request.ksn) (number_of_reason refused.reason) (laws.ten refused.request.ksn))
+    refused_is_frame laws refused.request.ksn (reason_number refused.reason) frame refused.frame_is
 
 -- so is the answer to what nothing is kept of
 pub settled_is_frame : TextLaws → (basis : LineBasis) (bytes frame : List ℕ) → IsSettled basis bytes frame → IsFrame frame

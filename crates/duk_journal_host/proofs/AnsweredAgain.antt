@@ -5,8 +5,10 @@ use Rattle.duk_frame.specs.Frame.{framed}
 use Rattle.duk_frame.specs.Request.{IsRequest}
 use Rattle.duk_frame.specs.declared.code.Code.{Code}
 use Rattle.duk_frame.specs.declared.request.Request.{Request}
-use Rattle.duk_host.specs.Judgement.{IsAuthentic, IsRefusalFor, IsReplyWith, JudgementBasis}
+use Rattle.duk_host.specs.Judgement.{IsAuthentic, IsRefusalFor, IsReplyWith, JudgementBasis, reason_number}
 use Rattle.duk_host.specs.Used.{IsUsed}
+use Rattle.duk_host.specs.declared.reason.Reason.{Reason}
+use Rattle.duk_host.specs.declared.reason.Reason.TheVariants as reason
 use Rattle.duk_journal.specs.Groups.{Entries}
 use Rattle.duk_journal.specs.Standing.{UseNewNumbers, payment_entry, reversed_numbers, used_by}
 use Rattle.duk_journal.specs.declared.entry.Entry.{Entry}
@@ -14,10 +16,8 @@ use Rattle.duk_reversal.specs.Reversal.{IsReversal}
 use Rattle.duk_reversal.specs.declared.reversal.Reversal.{Reversal}
 use Rattle.duk_reversal.specs.declared.state.ReversalState.{ReversalState}
 use Rattle.duk_tree.specs.Serial.{serial_bytes}
-use Rattle.duk_journal_host.specs.Judgement.{IsAuthenticReversal, IsJudged, IsPaymentKept, IsReasonAgainst, IsReversalKept, IsReversalReplyWith, LineBasis, reason_number, reversal_entry, without_repeats}
+use Rattle.duk_journal_host.specs.Judgement.{IsAuthenticReversal, IsJudged, IsPaymentKept, IsReasonAgainst, IsReversalKept, IsReversalReplyWith, LineBasis, reversal_entry, without_repeats}
 use Rattle.duk_journal_host.specs.Latest.{latest_entries}
-use Rattle.duk_journal_host.specs.declared.reason.Reason.{Reason}
-use Rattle.duk_journal_host.specs.declared.reason.Reason.TheVariants as reason
 use Rattle.duk_journal_host.proofs.Members.{own_used, reversed_used}
 use Rattle.duk_journal_host.proofs.NewNumbers.{one_entry}
 use Rattle.duk_journal_host.proofs.OneNumber.{latest_kept, same_code, same_state}
@@ -123,11 +123,12 @@ module _ (laws : ReadingLaws) (basis : LineBasis) (frame answer : List ℕ) (add
 
   -- an authentic reversal passes for all reasons before that of its number
   five : (reversal : Reversal) (why : Reason) → IsAuthenticReversal basis.keys reversal → Contains (used_by basis.entries) reversal.numbers.ksn → IsReasonAgainst basis reversal why → reason_number why ≡ 5
+  five reversal reason.Malformed authentic used is = absurd is.fails
   five reversal reason.UnknownKeySet authentic used is = absurd (cc (authentic.key_is.held, is.fails))
   five reversal reason.BadCounter authentic used is = absurd (is.fails authentic.key_is.usable)
   five reversal reason.BadMac authentic used is = absurd (is.fails authentic)
   five reversal reason.Used authentic used is = refl
-  five reversal reason.JournalFull authentic used is = absurd (is.earlier_met reason.Used (omega arith) used)
+  five reversal reason.LogFull authentic used is = absurd (is.earlier_met reason.Used (omega arith) used)
 
   -- any other of a used number is refused for that
   pub reversal_of_used : (reversal : Reversal) → IsJudged basis frame answer added → IsReversal frame reversal → IsAuthenticReversal basis.keys reversal

@@ -7,7 +7,9 @@ use Rattle.duk_frame.specs.declared.answer.AnswerFrame.{AnswerFrame}
 use Rattle.duk_frame.specs.declared.answer.AnswerFrame.TheVariants.{Refusal, Reply}
 use Rattle.duk_frame.specs.declared.code.Code.{Code}
 use Rattle.duk_frame.specs.declared.request.Request.{Request}
-use Rattle.duk_host.specs.Judgement.{IsAccepted, IsAnswerTo, IsRefusalFor, JudgementBasis}
+use Rattle.duk_host.specs.Judgement.{IsAccepted, IsAnswerTo, IsRefusalFor, JudgementBasis, reason_number}
+use Rattle.duk_host.specs.declared.reason.Reason.{Reason}
+use Rattle.duk_host.specs.declared.reason.Reason.TheVariants as reason
 use Rattle.duk_journal.specs.Groups.{Entries}
 use Rattle.duk_journal.specs.Standing.{UseNewNumbers}
 use Rattle.duk_journal.specs.declared.entry.Entry.{Entry}
@@ -17,9 +19,7 @@ use Rattle.duk_reversal.specs.declared.state.ReversalState.{ReversalState}
 use Rattle.duk_reversal.specs.declared.state.ReversalState.TheVariants.{NoneStands, Undone}
 use Rattle.duk_tree.specs.Serial.{Serial, serial_bytes}
 use Rattle.duk_journal_host.specs.Judged.{AreJudged}
-use Rattle.duk_journal_host.specs.Judgement.{FindsState, IsAnsweredAgain, IsJudged, IsPaid, IsReasonAgainst, IsRefused, IsReversalAcceptable, IsReversalAnsweredAgain, IsReversalRefused, IsReversalReplyWith, IsReversed, LineBasis, ReversalFails, ReversalPasses, entry_of, reason_number, refusal_of, reversal_entry, with_entries, without_repeats}
-use Rattle.duk_journal_host.specs.declared.reason.Reason.{Reason}
-use Rattle.duk_journal_host.specs.declared.reason.Reason.TheVariants as reason
+use Rattle.duk_journal_host.specs.Judgement.{FindsState, IsAnsweredAgain, IsJudged, IsPaid, IsReasonAgainst, IsRefused, IsReversalAcceptable, IsReversalAnsweredAgain, IsReversalRefused, IsReversalReplyWith, IsReversed, LineBasis, ReversalFails, ReversalPasses, entry_of, refusal_of, reversal_entry, with_entries, without_repeats}
 use Rattle.duk_journal_host.proofs.AnsweredAgain.{ReadingLaws, answered_again, reversed_again}
 use Rattle.duk_journal_host.proofs.NewNumbers.{new_after_one}
 use Rattle.duk_journal_host.proofs.OneNumber.{same_reply, same_reversal_reply}
@@ -66,11 +66,12 @@ reversal_in basis frame answer added (inr (entry, reversed, one)) = (reversed.re
 -- ---- the least reason
 
 pass_or_fail : (basis : LineBasis) (reversal : Reversal) (why : Reason) → ReversalPasses basis reversal why → ¬ ReversalFails basis reversal why
+pass_or_fail basis reversal reason.Malformed passes fails = fails
 pass_or_fail basis reversal reason.UnknownKeySet passes fails = absurd (cc (passes, fails))
 pass_or_fail basis reversal reason.BadCounter passes fails = fails passes
 pass_or_fail basis reversal reason.BadMac passes fails = fails passes
 pass_or_fail basis reversal reason.Used passes fails = passes fails
-pass_or_fail basis reversal reason.JournalFull passes fails = omega (arith, passes, fails)
+pass_or_fail basis reversal reason.LogFull passes fails = omega (arith, passes, fails)
 
 one_reason : (basis : LineBasis) (reversal : Reversal) (why other : Reason) → IsReasonAgainst basis reversal why → IsReasonAgainst basis reversal other → reason_number why ≡ reason_number other
 one_reason basis reversal why other is also =
@@ -79,11 +80,12 @@ one_reason basis reversal why other is also =
     omega (arith, not_less, not_more)
 
 no_reason : (basis : LineBasis) (reversal : Reversal) (why : Reason) → IsReversalAcceptable basis reversal → ¬ ReversalFails basis reversal why
+no_reason basis reversal reason.Malformed acceptable fails = fails
 no_reason basis reversal reason.UnknownKeySet acceptable fails = absurd (cc (acceptable.authentic.key_is.held, fails))
 no_reason basis reversal reason.BadCounter acceptable fails = fails acceptable.authentic.key_is.usable
 no_reason basis reversal reason.BadMac acceptable fails = fails acceptable.authentic
 no_reason basis reversal reason.Used acceptable fails = acceptable.new fails
-no_reason basis reversal reason.JournalFull acceptable fails = omega (arith, acceptable.room, fails)
+no_reason basis reversal reason.LogFull acceptable fails = omega (arith, acceptable.room, fails)
 
 one_state : (entries : Entries) (number : Serial) (state other : ReversalState) → FindsState entries number state → FindsState entries number other → state ≡ other
 one_state entries number Undone Undone finds also = refl

@@ -8,8 +8,10 @@ use Rattle.duk_frame.specs.Payment.{payment_reply, reply_mac}
 use Rattle.duk_frame.specs.declared.answer.AnswerFrame.{AnswerFrame}
 use Rattle.duk_frame.specs.declared.answer.AnswerFrame.TheVariants.{Refusal, Reply}
 use Rattle.duk_frame.specs.declared.code.Code.{Code}
-use Rattle.duk_host.specs.Judgement.{IsMalformed, IsRefusalFor, IsRefusedRequest, IsReplyWith, JudgementBasis}
+use Rattle.duk_host.specs.Judgement.{IsMalformed, IsRefusalFor, IsRefusedRequest, IsReplyWith, JudgementBasis, reason_number}
 use Rattle.duk_host.specs.Lifetime.{AcceptsNumber}
+use Rattle.duk_host.specs.declared.reason.Reason.{Reason}
+use Rattle.duk_host.specs.declared.reason.Reason.TheVariants as reason
 use Rattle.duk_hsm.specs.Commands.{IsTransactionKey}
 use Rattle.duk_hsm.specs.Keys.{HsmKeys, key_set_of}
 use Rattle.duk_journal.specs.Entry.{reversed_by}
@@ -25,10 +27,8 @@ use Rattle.duk_reversal.specs.declared.state.ReversalState.{ReversalState}
 use Rattle.duk_tree.specs.Derivation.{derived_key_of, response_key_of}
 use Rattle.duk_tree.specs.Serial.{IsSerial, Serial, prefix_of}
 use Rattle.duk_journal_host.specs.Judged.{AreJudged, AreRepliesOf, AreReversalRepliesOf, IsReplyOf, IsReversalReplyOf, TellsReversal}
-use Rattle.duk_journal_host.specs.Judgement.{IsJudged, IsReversalReplyWith, LineBasis, entry_of, reason_number, reversal_entry, with_entries, without_repeats}
+use Rattle.duk_journal_host.specs.Judgement.{IsJudged, IsReversalReplyWith, LineBasis, entry_of, reversal_entry, with_entries, without_repeats}
 use Rattle.duk_journal_host.specs.Latest.{latest_entries, most_latest}
-use Rattle.duk_journal_host.specs.declared.reason.Reason.{Reason}
-use Rattle.duk_journal_host.specs.declared.reason.Reason.TheVariants as reason
 use Rattle.duk_journal_host.proofs.Members.{front_or, none_in, the_one}
 use Rattle.duk_journal_host.proofs.NewNumbers.{one_entry, reversed_is}
 
@@ -160,11 +160,12 @@ some_refusal laws basis bytes frame (inl malformed) = laws.malformed bytes frame
 some_refusal laws basis bytes frame (inr refused) = laws.refused basis bytes frame refused
 
 reason_is : (why : Reason) → (1 ≤ reason_number why) × (reason_number why ≤ 6)
+reason_is reason.Malformed = (omega arith, omega arith)
 reason_is reason.UnknownKeySet = (omega arith, omega arith)
 reason_is reason.BadCounter = (omega arith, omega arith)
 reason_is reason.BadMac = (omega arith, omega arith)
 reason_is reason.Used = (omega arith, omega arith)
-reason_is reason.JournalFull = (omega arith, omega arith)
+reason_is reason.LogFull = (omega arith, omega arith)
 
 -- what a frame is judged with is one of them
 pub one_of : AnswerLaws → (basis : LineBasis) (frame answer : List ℕ) (added : Entries) → IsJudged basis frame answer added → IsOneOf basis.keys (basis.entries ++ added) answer

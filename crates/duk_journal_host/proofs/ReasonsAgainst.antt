@@ -2,10 +2,10 @@
 use Rattle.std.proofs.Common.{◌≡◌, ◌<◌, ℕ, List, [], Contains, Option, Some, IsSome, inl, inr, refl, sym, subst, arith}
 use Rattle.duk_frame.specs.Request.{IsRequest}
 use Rattle.duk_frame.specs.declared.request.Request.{Request}
-use Rattle.duk_host.specs.Judgement.{Decision, IsAuthentic, IsReasonAgainst as IsReasonAgainstRequest, IsRefusalFor, JudgementBasis, Passes, basis_with, reason_number as number_of_reason}
+use Rattle.duk_host.specs.Judgement.{Decision, IsAuthentic, IsReasonAgainst as IsReasonAgainstRequest, IsRefusalFor, JudgementBasis, Passes, basis_with, reason_number}
 use Rattle.duk_host.specs.Judgement as host
-use Rattle.duk_host.specs.declared.reason.Reason.{Reason as RequestReason}
-use Rattle.duk_host.specs.declared.reason.Reason.TheVariants as request_reason
+use Rattle.duk_host.specs.declared.reason.Reason.{Reason}
+use Rattle.duk_host.specs.declared.reason.Reason.TheVariants as reason
 use Rattle.duk_hsm.specs.Commands.{IsOtherMac, IsRequestMac}
 use Rattle.duk_hsm.specs.Keys.{HsmKeys, key_set_of}
 use Rattle.duk_journal.specs.Groups.{Entries}
@@ -13,11 +13,9 @@ use Rattle.duk_reversal.specs.Reversal.{IsReversal, reversal_text}
 use Rattle.duk_reversal.specs.declared.reversal.Reversal.{Reversal}
 use Rattle.duk_tree.specs.Path.{IsUsable}
 use Rattle.duk_tree.specs.Serial.{Serial, prefix_of}
-use Rattle.duk_journal_host.specs.Judgement.{IsAuthenticReversal, IsReasonAgainst, LineBasis, ReversalPasses, line_basis, reason_number, refusal_of, room_for_payments}
+use Rattle.duk_journal_host.specs.Judgement.{IsAuthenticReversal, IsReasonAgainst, LineBasis, ReversalPasses, line_basis, refusal_of, room_for_payments}
 use Rattle.duk_journal.specs.Standing.{used_by}
 use Rattle.duk_journal_host.specs.Steps.{IsDismissed}
-use Rattle.duk_journal_host.specs.declared.reason.Reason.{Reason}
-use Rattle.duk_journal_host.specs.declared.reason.Reason.TheVariants as reason
 use Rattle.duk_journal_host.specs.inner.Judged.{IsAgainstMac, IsNoReversal}
 use Rattle.duk_journal_host.proofs.OneNumber.{one_key}
 
@@ -33,11 +31,12 @@ no_other_mac keys ksn text mac other is =
 
 -- a reversal with a reason against its MAC is not authentic
 not_authentic : (keys : HsmKeys) (reversal : Reversal) (why : Reason) → IsAgainstMac keys reversal why → ¬ IsAuthenticReversal keys reversal
+not_authentic keys reversal reason.Malformed against authentic = absurd against
 not_authentic keys reversal reason.UnknownKeySet against authentic = absurd (cc (authentic.key_is.held, against))
 not_authentic keys reversal reason.BadCounter against authentic = against.unusable authentic.key_is.usable
 not_authentic keys reversal reason.BadMac against authentic = no_other_mac keys reversal.numbers.ksn (reversal_text reversal.numbers) reversal.mac against authentic
 not_authentic keys reversal reason.Used against authentic = absurd against
-not_authentic keys reversal reason.JournalFull against authentic = absurd against
+not_authentic keys reversal reason.LogFull against authentic = absurd against
 
 module _ (basis : LineBasis) (reversal : Reversal) where
   abbrev HasKeySet : Type 0
@@ -52,13 +51,15 @@ module _ (basis : LineBasis) (reversal : Reversal) where
   -- what holds where a reason is tested
   passes : (number : ℕ) → (2 < number → HasKeySet) → (3 < number → HasCounter) → (4 < number → IsAuthenticReversal basis.keys reversal) → (5 < number → IsNew)
       → (6 < number → 0 < basis.room) → (earlier : Reason) → reason_number earlier < number → ReversalPasses basis reversal earlier
+  passes number key_set counter authentic new room reason.Malformed below = tt
   passes number key_set counter authentic new room reason.UnknownKeySet below = key_set below
   passes number key_set counter authentic new room reason.BadCounter below = counter below
   passes number key_set counter authentic new room reason.BadMac below = authentic below
   passes number key_set counter authentic new room reason.Used below = new below
-  passes number key_set counter authentic new room reason.JournalFull below = room below
+  passes number key_set counter authentic new room reason.LogFull below = room below
 
   of_mac : (why : Reason) → IsAgainstMac basis.keys reversal why → IsReasonAgainst basis reversal why
+  of_mac reason.Malformed against = absurd against
   of_mac reason.UnknownKeySet against = record {
     fails = against;
     earlier_met = passes 2 (λ below. absurd (omega (arith, below))) (λ below. absurd (omega (arith, below))) (λ below. absurd (omega (arith, below))) (λ below. absurd (omega (arith, below)))
@@ -75,7 +76,7 @@ module _ (basis : LineBasis) (reversal : Reversal) where
         (λ below. absurd (omega (arith, below))) (λ below. absurd (omega (arith, below))) (λ below. absurd (omega (arith, below)));
   }
   of_mac reason.Used against = absurd against
-  of_mac reason.JournalFull against = absurd against
+  of_mac reason.LogFull against = absurd against
 
   module _ (authentic : IsAuthenticReversal basis.keys reversal) where
     held : HasKeySet
@@ -87,7 +88,7 @@ module _ (basis : LineBasis) (reversal : Reversal) where
       earlier_met = passes 5 (λ below. held) (λ below. authentic.key_is.usable) (λ below. authentic) (λ below. absurd (omega (arith, below))) (λ below. absurd (omega (arith, below)));
     }
 
-    pub is_full_for_reversal : IsNew → basis.room ≡ 0 → IsReasonAgainst basis reversal reason.JournalFull
+    pub is_full_for_reversal : IsNew → basis.room ≡ 0 → IsReasonAgainst basis reversal reason.LogFull
     is_full_for_reversal new full = record {
       fails = full;
       earlier_met = passes 6 (λ below. held) (λ below. authentic.key_is.usable) (λ below. authentic) (λ below. new) (λ below. absurd (omega (arith, below)));
@@ -118,16 +119,16 @@ request_dismissed keys bytes frame no_reversal not_one refusal entries capacity 
 
 module _ (basis : JudgementBasis) (request : Request) (no_repeat : host.IsNoRepeat basis request) (authentic : IsAuthentic basis.keys request) where
   -- what holds of an authentic one where a reason is tested
-  met : (number : ℕ) → (5 < number → ¬ Contains basis.used request.ksn) → (6 < number → 0 < basis.room) → (earlier : RequestReason) → number_of_reason earlier < number → Passes basis request earlier
-  met number new room request_reason.Malformed below = tt
-  met number new room request_reason.UnknownKeySet below = is_held (key_set_of basis.keys (prefix_of request.ksn)) authentic.key_is.bdk authentic.key_is.held
-  met number new room request_reason.BadCounter below = authentic.key_is.usable
-  met number new room request_reason.BadMac below = authentic
-  met number new room request_reason.Used below = new below
-  met number new room request_reason.LogFull below = room below
+  met : (number : ℕ) → (5 < number → ¬ Contains basis.used request.ksn) → (6 < number → 0 < basis.room) → (earlier : Reason) → reason_number earlier < number → Passes basis request earlier
+  met number new room reason.Malformed below = tt
+  met number new room reason.UnknownKeySet below = is_held (key_set_of basis.keys (prefix_of request.ksn)) authentic.key_is.bdk authentic.key_is.held
+  met number new room reason.BadCounter below = authentic.key_is.usable
+  met number new room reason.BadMac below = authentic
+  met number new room reason.Used below = new below
+  met number new room reason.LogFull below = room below
 
-  pub is_used_request : Contains basis.used request.ksn → IsReasonAgainstRequest basis request request_reason.Used
+  pub is_used_request : Contains basis.used request.ksn → IsReasonAgainstRequest basis request reason.Used
   is_used_request used = record { fails = (no_repeat, used); earlier_met = met 5 (λ below. absurd (omega (arith, below))) (λ below. absurd (omega (arith, below))) }
 
-  pub is_full_for_request : ¬ Contains basis.used request.ksn → basis.room ≡ 0 → IsReasonAgainstRequest basis request request_reason.LogFull
+  pub is_full_for_request : ¬ Contains basis.used request.ksn → basis.room ≡ 0 → IsReasonAgainstRequest basis request reason.LogFull
   is_full_for_request new full = record { fails = (no_repeat, full); earlier_met = met 6 (λ below. new) (λ below. absurd (omega (arith, below))) }

@@ -4,8 +4,8 @@ use Rattle.duk_frame.specs.Request.{IsRequest}
 use Rattle.duk_frame.specs.declared.code.Code.{Code}
 use Rattle.duk_frame.specs.declared.request.Request.{Request}
 use Rattle.duk_host.specs.Judgement.{Decision, IsAuthentic, IsCodeOf, IsReasonAgainst, IsRefusalFor, refusal_frame}
-use Rattle.duk_host.specs.declared.reason.Reason.{Reason as RequestReason}
-use Rattle.duk_host.specs.declared.reason.Reason.TheVariants as request_reason
+use Rattle.duk_host.specs.declared.reason.Reason.{Reason}
+use Rattle.duk_host.specs.declared.reason.Reason.TheVariants as reason
 use Rattle.duk_hsm.specs.Commands.{HasTransactionKey}
 use Rattle.duk_hsm.specs.Keys.{HsmKeys}
 use Rattle.duk_journal.specs.Groups.{Entries}
@@ -22,8 +22,6 @@ use Rattle.duk_journal_host.specs.declared.authentic.Authentic.TheVariants as au
 use Rattle.duk_journal_host.specs.declared.authentic.Purchase.{Purchase}
 use Rattle.duk_journal_host.specs.declared.candidate.Candidate.{Candidate}
 use Rattle.duk_journal_host.specs.declared.candidate.Candidate.TheVariants as candidate
-use Rattle.duk_journal_host.specs.declared.reason.Reason.{Reason}
-use Rattle.duk_journal_host.specs.declared.reason.Reason.TheVariants as reason
 use Rattle.duk_journal_host.specs.declared.settlement.Settled.{Settled}
 use Rattle.duk_journal_host.specs.declared.settlement.Settled.TheVariants as settled
 use Rattle.duk_journal_host.specs.declared.settlement.Settlement.{Settlement}
@@ -50,7 +48,7 @@ module _ (keys : HsmKeys) (entries : Entries) (capacity room : ℕ) (decides : D
       refusal = refusal;
     }))
 
-    refusal_for : (against : RequestReason) → IsReasonAgainst (without_repeats basis) request against → frame ≡ refusal_frame (serial_bytes request.ksn) against → IsRefusalFor (without_repeats basis) bytes frame
+    refusal_for : (against : Reason) → IsReasonAgainst (without_repeats basis) request against → frame ≡ refusal_frame (serial_bytes request.ksn) against → IsRefusalFor (without_repeats basis) bytes frame
     refusal_for against refuses frame_is = inr (record { request = request; reason = against; is_request = is_request; refuses = refuses; frame_is = frame_is })
 
     payment_judged : (settlement : Settlement Code) → IsSettledBy entries capacity room (IsCodeFor keys decides bytes) (settled.Payment (purchase_of request) settlement)
@@ -67,9 +65,9 @@ module _ (keys : HsmKeys) (entries : Entries) (capacity room : ℕ) (decides : D
       refl,
     )
     payment_judged Used settles frame_is =
-        inl (refused settles.0 (refusal_for request_reason.Used (is_used_request (without_repeats basis) request refl authentic settles.1) frame_is), refl)
+        inl (refused settles.0 (refusal_for reason.Used (is_used_request (without_repeats basis) request refl authentic settles.1) frame_is), refl)
     payment_judged Full settles frame_is =
-        inl (refused settles.0 (refusal_for request_reason.LogFull (is_full_for_request (without_repeats basis) request refl authentic settles.1 settles.2) frame_is), refl)
+        inl (refused settles.0 (refusal_for reason.LogFull (is_full_for_request (without_repeats basis) request refl authentic settles.1 settles.2) frame_is), refl)
     payment_judged (Kept code) settles reply = inr (
       payment_entry request.ksn request.amount code request.mac,
       inl (record {
@@ -111,7 +109,7 @@ module _ (keys : HsmKeys) (entries : Entries) (capacity room : ℕ) (decides : D
       refl,
     )
     reversal_judged Used settles frame_is = inl (refuses reason.Used (is_used_reversal basis reversal is.authentic settles.1) settles.0 frame_is, refl)
-    reversal_judged Full settles frame_is = inl (refuses reason.JournalFull (is_full_for_reversal basis reversal is.authentic settles.1 settles.2) settles.0 frame_is, refl)
+    reversal_judged Full settles frame_is = inl (refuses reason.LogFull (is_full_for_reversal basis reversal is.authentic settles.1 settles.2) settles.0 frame_is, refl)
     reversal_judged (Kept state) settles reply = inr (
       reversal_entry reversal state,
       inr (record {

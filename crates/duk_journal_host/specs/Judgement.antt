@@ -2,12 +2,12 @@
 -- payment is judged as `duk_host` does, by the numbers that these entries use, with the latest of
 -- them in place of the exchanges; a reversal is judged by the same reasons in the same order.
 use Rattle.std.specs.Prelude.{◌≡◌, ◌⊎◌, ◌<◌, ◌-◌, ◌*◌, ◌++◌, ℕ, List, [], ◌∷◌, None, IsSome, Contains, if◌then◌else◌, length, nat_le}
-use Rattle.duk_frame.specs.Answer.{refusal_text}
-use Rattle.duk_frame.specs.Frame.{framed}
 use Rattle.duk_frame.specs.Request.{IsRequest}
 use Rattle.duk_frame.specs.declared.code.Code.{Code}
 use Rattle.duk_frame.specs.declared.request.Request.{Request}
-use Rattle.duk_host.specs.Judgement.{Decision, IsAcceptable, IsAccepted, IsAuthentic, IsRefusalFor, IsReplyWith, JudgementBasis, basis_with}
+use Rattle.duk_host.specs.Judgement.{Decision, IsAcceptable, IsAccepted, IsAuthentic, IsRefusalFor, IsReplyWith, JudgementBasis, basis_with, reason_number, refusal_frame}
+use Rattle.duk_host.specs.declared.reason.Reason.{Reason}
+use Rattle.duk_host.specs.declared.reason.Reason.TheVariants as reason
 use Rattle.duk_hsm.specs.Commands.{IsRequestMac, IsTransactionKey}
 use Rattle.duk_hsm.specs.Keys.{HsmKeys, key_set_of}
 use Rattle.duk_io.specs.FirstFault.{IsFirst}
@@ -25,8 +25,6 @@ use Rattle.duk_tree.specs.Derivation.{response_key_of}
 use Rattle.duk_tree.specs.Path.{IsUsable}
 use Rattle.duk_tree.specs.Serial.{Serial, prefix_of, serial_bytes}
 use Rattle.duk_journal_host.specs.Latest.{latest_entries}
-use Rattle.duk_journal_host.specs.declared.reason.Reason.{Reason}
-use Rattle.duk_journal_host.specs.declared.reason.Reason.TheVariants as reason
 
 -- what frames are judged by: the keys that are held, the entries kept so far, how many a journal may
 -- keep and for how many more there is room, and the issuer's decision
@@ -123,32 +121,28 @@ pub record IsReversalReplyWith
   pub key_is : IsTransactionKey keys numbers.ksn key
   pub frame_is : frame ≡ reversal_reply_under (response_key_of key) numbers state
 
--- the number of a reason in a refusal: that which the same reason has against a request
-abbrev pub reason_number : Reason → ℕ
-reason_number reason.UnknownKeySet = 2
-reason_number reason.BadCounter = 3
-reason_number reason.BadMac = 4
-reason_number reason.Used = 5
-reason_number reason.JournalFull = 6
-
--- what has to hold of a reversal, by the reason for which it is refused where that does not hold
+-- what has to hold of a reversal, by the reason for which it is refused where that does not hold. The
+-- reasons are those against a request. Bytes that are no reversal are not judged as one, so that none
+-- is malformed
 abbrev pub ReversalPasses : LineBasis → reversal_frame.Reversal → Reason → Type 0
+ReversalPasses basis reversal reason.Malformed = Unit {0}
 ReversalPasses basis reversal reason.UnknownKeySet =
     IsSome (key_set_of basis.keys (prefix_of reversal.numbers.ksn))
 ReversalPasses basis reversal reason.BadCounter = IsUsable reversal.numbers.ksn.counter
 ReversalPasses basis reversal reason.BadMac = IsAuthenticReversal basis.keys reversal
 ReversalPasses basis reversal reason.Used =
     ¬ Contains (used_by basis.entries) reversal.numbers.ksn
-ReversalPasses basis reversal reason.JournalFull = 0 < basis.room
+ReversalPasses basis reversal reason.LogFull = 0 < basis.room
 
 -- it does not hold
 abbrev pub ReversalFails : LineBasis → reversal_frame.Reversal → Reason → Type 0
+ReversalFails basis reversal reason.Malformed = ⊥
 ReversalFails basis reversal reason.UnknownKeySet =
     key_set_of basis.keys (prefix_of reversal.numbers.ksn) ≡ None
 ReversalFails basis reversal reason.BadCounter = ¬ IsUsable reversal.numbers.ksn.counter
 ReversalFails basis reversal reason.BadMac = ¬ IsAuthenticReversal basis.keys reversal
 ReversalFails basis reversal reason.Used = Contains (used_by basis.entries) reversal.numbers.ksn
-ReversalFails basis reversal reason.JournalFull = basis.room ≡ 0
+ReversalFails basis reversal reason.LogFull = basis.room ≡ 0
 
 -- the least reason against a reversal: it fails for this one, and passes for each before it
 abbrev pub IsReasonAgainst : LineBasis → reversal_frame.Reversal → Reason → Type 0
@@ -157,7 +151,7 @@ IsReasonAgainst basis reversal =
 
 -- the frame of the refusal of what uses this number, a reversal or a request
 abbrev pub refusal_of : Serial → Reason → List ℕ
-refusal_of ksn why = framed (refusal_text (serial_bytes ksn) (reason_number why))
+refusal_of ksn why = refusal_frame (serial_bytes ksn) why
 
 -- the reversal is one of the latest entries, and found this then
 abbrev pub IsReversalKept : LineBasis → reversal_frame.Reversal → ReversalState → Type 0

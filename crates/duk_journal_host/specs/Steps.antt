@@ -6,6 +6,7 @@ use Rattle.duk_frame.specs.Request.{IsRequest}
 use Rattle.duk_frame.specs.declared.code.Code.{Code}
 use Rattle.duk_frame.specs.declared.request.Request.{Request}
 use Rattle.duk_host.specs.Judgement.{Decision, IsAuthentic, IsCodeOf, IsReplyWith}
+use Rattle.duk_host.specs.declared.reason.Reason.TheVariants as reason
 use Rattle.duk_hsm.specs.Keys.{HsmKeys}
 use Rattle.duk_journal.specs.Groups.{Entries}
 use Rattle.duk_journal.specs.Standing.{payment_entry, reversed_numbers, used_by}
@@ -17,7 +18,6 @@ use Rattle.duk_tree.specs.Serial.{Serial}
 use Rattle.duk_journal_host.specs.Judgement.{FindsState, IsAuthenticReversal, IsReversalReplyWith, IsSettled, line_basis, refusal_of, reversal_entry, room_for_payments}
 use Rattle.duk_journal_host.specs.Latest.{latest_entries}
 use Rattle.duk_journal_host.specs.declared.authentic.Purchase.{Purchase}
-use Rattle.duk_journal_host.specs.declared.reason.Reason.TheVariants as reason
 use Rattle.duk_journal_host.specs.declared.settlement.Settled.{Settled}
 use Rattle.duk_journal_host.specs.declared.settlement.Settled.TheVariants as settled
 use Rattle.duk_journal_host.specs.declared.settlement.Settlement.{Settlement}
@@ -125,7 +125,7 @@ abbrev pub IsAnswerBy : {T : Type 0} → Serial → (T → List ℕ → Type 0) 
 IsAnswerBy number replies (Kept outcome) frame = replies outcome frame
 IsAnswerBy number replies (KnownAgain outcome) frame = replies outcome frame
 IsAnswerBy number replies Used frame = frame ≡ refusal_of number reason.Used
-IsAnswerBy number replies Full frame = frame ≡ refusal_of number reason.JournalFull
+IsAnswerBy number replies Full frame = frame ≡ refusal_of number reason.LogFull
 
 abbrev pub IsAnswerOf : HsmKeys → Settled → List ℕ → Type 0
 IsAnswerOf keys (settled.Payment purchase settlement) frame =

@@ -8,9 +8,8 @@ ghost use Rattle.duk_journal_host.specs.Steps.{IsDismissed, purchase_of};
 ghost use Rattle.duk_journal_host.specs.inner.Judged.{IsAgainstMac, OpensFrame};
 ghost use Rattle.duk_journal_host.specs.inner.Steps.{IsAuthenticated, IsOpenedUnder};
 
-use crate::reason::Reason;
 use duk_frame::{Frame, Request};
-use duk_host::{Payment, authenticate_opened};
+use duk_host::{Payment, Reason, authenticate_opened};
 use duk_hsm::{HsmFault, Transaction};
 use duk_reversal::{Reversal, read_reversal};
 use duk_tree::Ksn;
@@ -66,7 +65,7 @@ pub(crate) fn authenticate(
     match read_reversal(frame) {
         Some(reversal) => match verified(opened, &reversal) {
             Ok(()) => Ok(Authentic::Reversal(reversal)),
-            Err(reason) => Err(reason.answer(reversal.numbers.ksn())),
+            Err(reason) => Err(reason.refusal(reversal.numbers.ksn())),
         },
         None => match authenticate_opened(opened, frame) {
             Ok(payment) => Ok(Authentic::Payment(payment)),

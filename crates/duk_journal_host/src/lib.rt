@@ -22,7 +22,6 @@ mod latest;
 pub mod laws;
 mod opening;
 mod reading;
-mod reason;
 mod service;
 mod sets;
 mod settle;

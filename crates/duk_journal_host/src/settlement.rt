@@ -14,8 +14,8 @@ ghost use Rattle.duk_journal_host.specs.inner.Draft.{IsDraftUnder, frame_of};
 
 use crate::authentic::Purchase;
 use crate::draft::Draft;
-use crate::reason::Reason;
 use duk_frame::Code;
+use duk_host::Reason;
 use duk_journal::{Decided, Entry};
 use duk_reversal::{Reversal, ReversalState};
 use duk_tree::Ksn;
@@ -84,8 +84,8 @@ impl Settled {
                 match settlement {
                     Settlement::Kept(code) => Draft::payment_reply(number, *code),
                     Settlement::KnownAgain(code) => Draft::payment_reply(number, *code),
-                    Settlement::Used => Draft::Whole(Reason::Used.answer(number)),
-                    Settlement::Full => Draft::Whole(Reason::JournalFull.answer(number)),
+                    Settlement::Used => Draft::Whole(Reason::Used.refusal(number)),
+                    Settlement::Full => Draft::Whole(Reason::LogFull.refusal(number)),
                 }
             }
             Settled::Reversal(reversal, settlement) => {
@@ -93,8 +93,8 @@ impl Settled {
                 match settlement {
                     Settlement::Kept(state) => Draft::reversal_reply(numbers, *state),
                     Settlement::KnownAgain(state) => Draft::reversal_reply(numbers, *state),
-                    Settlement::Used => Draft::Whole(Reason::Used.answer(numbers.ksn())),
-                    Settlement::Full => Draft::Whole(Reason::JournalFull.answer(numbers.ksn())),
+                    Settlement::Used => Draft::Whole(Reason::Used.refusal(numbers.ksn())),
+                    Settlement::Full => Draft::Whole(Reason::LogFull.refusal(numbers.ksn())),
                 }
             }
         }

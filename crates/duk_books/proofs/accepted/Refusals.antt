@@ -56,7 +56,7 @@ pub record RefusalLaws : Type 0 where
 used_or_full : (basis : JudgementBasis) (request : Request) (why : _) → IsAuthentic basis.keys request → IsReasonAgainst basis request why → (reason_number why ≡ 5) ⊎ (reason_number why ≡ 6)
 used_or_full basis request why authentic first = grind (arith, first.fails, authentic.key_is.held, authentic.key_is.usable, authentic)
 
-reversal_used_or_full : (basis : LineBasis) (reversal : reversal_frame.Reversal) (why : _) → IsAuthenticReversal basis.keys reversal → line.IsReasonAgainst basis reversal why → (line.reason_number why ≡ 5) ⊎ (line.reason_number why ≡ 6)
+reversal_used_or_full : (basis : LineBasis) (reversal : reversal_frame.Reversal) (why : _) → IsAuthenticReversal basis.keys reversal → line.IsReasonAgainst basis reversal why → (reason_number why ≡ 5) ⊎ (reason_number why ≡ 6)
 reversal_used_or_full basis reversal why authentic first = grind (arith, first.fails, authentic.key_is.held, authentic.key_is.usable, authentic)
 
 same_reason : (ksn other : Serial) (why reason : ℕ) → Refusal ksn why ≡ Refusal other reason → why ≡ reason
@@ -89,7 +89,7 @@ module _ (laws : RefusalLaws) (basis : LineBasis) (bytes answer : List ℕ) (ksn
       (used_or_full (without_repeats basis) refused.request refused.reason (subst (IsAuthentic basis.keys) same authentic) refused.refuses)
 
   -- a refusal of a reversal is read as that
-  read_refusal : (number : Serial) (reason : _) → IsSerial number → answer ≡ refusal_of number reason → IsRefusal answer number (line.reason_number reason)
+  read_refusal : (number : Serial) (reason : _) → IsSerial number → answer ≡ refusal_of number reason → IsRefusal answer number (reason_number reason)
   read_refusal number reason serial is = record { fields = (serial, record { least = grind arith; most = grind arith }); laid_out = is }
 
   reversal_refused : (reversal : reversal_frame.Reversal) → IsReversal bytes reversal → IsAuthenticReversal basis.keys reversal → line.IsReversalRefused basis bytes answer → (why ≡ 5) ⊎ (why ≡ 6)
@@ -97,7 +97,7 @@ module _ (laws : RefusalLaws) (basis : LineBasis) (bytes answer : List ℕ) (ksn
       let same = laws.one_reversal bytes reversal refused.reversal is refused.is_reversal in
       let read = read_refusal refused.reversal.numbers.ksn refused.why refused.is_reversal.fields.numbers_are.ksn_is refused.frame_is in
       subst (λ it. (it ≡ 5) ⊎ (it ≡ 6))
-      (same_reason refused.reversal.numbers.ksn ksn (line.reason_number refused.why) why (laws.replies.host.one_answer answer (Refusal refused.reversal.numbers.ksn (line.reason_number refused.why)) (Refusal ksn why) read refusal))
+      (same_reason refused.reversal.numbers.ksn ksn (reason_number refused.why) why (laws.replies.host.one_answer answer (Refusal refused.reversal.numbers.ksn (reason_number refused.why)) (Refusal ksn why) read refusal))
       (reversal_used_or_full basis refused.reversal refused.why (subst (IsAuthenticReversal basis.keys) same authentic) refused.refuses)
 
   -- what a frame is refused for

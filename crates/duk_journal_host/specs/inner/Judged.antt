@@ -6,6 +6,8 @@ use Rattle.duk_frame.specs.Request.{IsRequest}
 use Rattle.duk_frame.specs.declared.request.Request.{Request}
 use Rattle.duk_host.specs.Judgement.{Decision, IsOpenedTo, OpensRequest}
 use Rattle.duk_host.specs.Used.{IsUsed}
+use Rattle.duk_host.specs.declared.reason.Reason.{Reason}
+use Rattle.duk_host.specs.declared.reason.Reason.TheVariants as reason
 use Rattle.duk_hsm.specs.Commands.{HasBadCounter, IsOtherMac}
 use Rattle.duk_hsm.specs.Group.{AreOpened, OpenedPlaces}
 use Rattle.duk_hsm.specs.Keys.{HsmKeys, key_set_of}
@@ -23,8 +25,6 @@ use Rattle.duk_tree.specs.Serial.{Serial, prefix_of}
 use Rattle.duk_journal_host.specs.Host.{IndexOf, IsIndexOf}
 use Rattle.duk_journal_host.specs.Judged.{AreJudged}
 use Rattle.duk_journal_host.specs.Judgement.{IsJudged, MayBeTaken, line_basis, reversal_entry}
-use Rattle.duk_journal_host.specs.declared.reason.Reason.{Reason}
-use Rattle.duk_journal_host.specs.declared.reason.Reason.TheVariants as reason
 
 -- the bytes are no reversal
 abbrev pub IsNoReversal : List ℕ → Type 0

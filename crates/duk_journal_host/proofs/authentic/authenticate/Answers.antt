@@ -9,8 +9,8 @@ use Rattle.duk_journal_host.proofs.authentic.authenticate.Goals as goal
 pub returns-in-Err-clause-dismissed : goal.returns-in-Err-clause-dismissed
 returns-in-Err-clause-dismissed c = λ keys opens.
     let reversal = c.in-Some.reversal in
-    reversal_dismissed keys c.args.frame.now c.answer.result.items reversal c.in-Err.reason c.in-Some.ensures.found (c.in-Err.ensures.refused keys (opens.reversal reversal c.in-Some.ensures.found))
-    (c.answer.ensures ∙ ap (λ ksn. refusal_of ksn c.in-Err.reason) c.ksn.ensures.value)
+    reversal_dismissed keys c.args.frame.now c.refusal.result.items reversal c.in-Err.reason c.in-Some.ensures.found (c.in-Err.ensures.refused keys (opens.reversal reversal c.in-Some.ensures.found))
+    (c.refusal.ensures ∙ ap (λ ksn. refusal_of ksn c.in-Err.reason) c.ksn.ensures.value)
 
 pub returns-in-Ok-authenticate_opened-clause-opened : goal.returns-in-Ok-authenticate_opened-clause-opened
 returns-in-Ok-authenticate_opened-clause-opened c = λ keys opens.
