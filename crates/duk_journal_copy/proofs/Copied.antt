@@ -3,7 +3,7 @@ use Rattle.std.proofs.Common.{◌≡◌, ◌∙◌, ◌+◌, ◌*◌, ◌-◌, �
 use Rattle.duk_journal.specs.CheckedFormat.{checked_format}
 use Rattle.duk_journal.specs.DiskJournal.{disk_journal_state}
 use Rattle.duk_journal.specs.Groups.{Entries, KeepsChecked}
-use Rattle.duk_journal.specs.Header.{journal_kind}
+use Rattle.duk_journal.specs.Header.{header_of, identity_of, journal_kind}
 use Rattle.duk_journal.specs.RecordFormat.{entry_format, record_at}
 use Rattle.duk_journal.specs.declared.entry.Entry.{Entry}
 use Rattle.duk_journal_copy.specs.Copy.{CopyFailed, IsCopied, IsRecordCopied}
@@ -18,7 +18,7 @@ use Rattle.duk_journal_copy.specs.inner.Blank.{LeavesOutside}
 use Rattle.duk_journal_copy.specs.inner.Convert.{IsConverted}
 use Rattle.duk_journal_copy.specs.inner.Copy.{AreConvertedFrom, IsIdentityRead, IsRestCopied, RecordsUncopied, new_spot, old_spot}
 use Rattle.duk_journal_copy.specs.inner.Head.{IsHeadSettled, LeavesHeadInTurn}
-use Rattle.duk_journal_copy.specs.inner.Rest.{journal_bytes}
+use Rattle.duk_journal_copy.specs.inner.Rest.{file_bytes}
 use Rattle.duk_store.specs.Disk.{DiskState, LeavesReads, PreservesBytes, PreservesDisk}
 use Rattle.duk_store.specs.Format.{FormatMeaning, IsFormat}
 use Rattle.duk_store.specs.Records as records
@@ -76,15 +76,15 @@ why_not kept own old old' old'' new new' Changed stays bytes own_is uncopied = �
 
 -- ---- a copied record
 
-copied_record : (version : Version) (own identity count size : ℕ) (old xs : List ℕ) → length xs ≡ 32 * count → 32 * (1 + count) ≤ size
+copied_record : (version : Version) (own identity count size : ℕ) (old xs : List ℕ) → length (header_of journal_kind identity) ≡ 32 → length xs ≡ 32 * count → 32 * (1 + count) ≤ size
     → own ≡ records.identity_in (format_of version) old → AreConvertedFrom version (old_spot version own 0) (new_spot identity 0) count old xs
-    → (place : ℕ) → place < count → IsRecordCopied version identity place old (journal_bytes identity xs size)
-copied_record version own identity count size old xs many room own_is each place less =
-    let whole : List ℕ = journal_bytes identity xs size in
+    → (place : ℕ) → place < count → IsRecordCopied version identity place old (file_bytes journal_kind identity xs size)
+copied_record version own identity count size old xs long many room own_is each place less =
+    let whole : List ℕ = file_bytes journal_kind identity xs size in
     let at : ℕ = (format_of version).headers + place in
     let there : (format_of version).headers + 0 + place ≡ at = omega arith in
     let it : IsConverted version (spot own at) (spot identity (1 + place)) (record_at at old) (record_at (1 + place) whole) =
-    subst (λ (l : List ℕ). IsConverted version (spot own at) (spot identity (1 + place)) (record_at at old) l) (sym (record_in identity xs count size many room place less))
+    subst (λ (l : List ℕ). IsConverted version (spot own at) (spot identity (1 + place)) (record_at at old) l) (sym (record_in journal_kind identity long xs count size many room place less))
     (subst (λ (n : ℕ). IsConverted version (spot own n) (spot identity (1 + place)) (record_at n old) (record_at place xs)) there (each place less)) in
     record {
       followers = it.followers;
@@ -106,6 +106,7 @@ finds_them one_list after entries leaves keeps = λ other. (
 
 module _ (one_list : (bytes : List ℕ) (one two : Entries) → KeepsChecked bytes one → KeepsChecked bytes two → one ≡ two)
     (kept : Kept) (is_format : IsFormat (format_of kept.version)) (identity own : ℕ) (fits : identity < 2 ^ 64)
+    (long : length (header_of journal_kind identity) ≡ 32) (back : identity_of (header_of journal_kind identity) ≡ identity)
     (old old' old'' before mid after : DiskState) (room : 32 * (1 + kept.count) ≤ before.size)
     (stays : PreservesDisk old old') (bytes : PreservesBytes old old') (own_is : IsIdentityRead kept.version old old' own)
     (rest : IsRestCopied kept own identity old' old'' before mid) where
@@ -114,23 +115,23 @@ module _ (one_list : (bytes : List ℕ) (one two : Entries) → KeepsChecked byt
   copied_records k = (rest.rest k).0
 
   abbrev copy : before.honest → List ℕ
-  copy k = journal_bytes identity (copied_records k) before.size
+  copy k = file_bytes journal_kind identity (copied_records k) before.size
 
   many : (k : before.honest) → length (copied_records k) ≡ 32 * kept.count
   many k = (rest.rest k).1
 
   each_copied : (k : before.honest) → old.honest → (place : ℕ) → place < kept.count → IsRecordCopied kept.version identity place old.reads (copy k)
   each_copied k h place less =
-      copied_record kept.version own identity kept.count before.size old.reads (copied_records k) (many k) room (own_is.is h)
+      copied_record kept.version own identity kept.count before.size old.reads (copied_records k) long (many k) room (own_is.is h)
       (subst (λ (l : List ℕ). AreConvertedFrom kept.version (old_spot kept.version own 0) (new_spot identity 0) kept.count l (copied_records k)) bytes.reads
       ((rest.rest k).2 (stays.honest.0 h)))
       place less
 
   copy_keeps : (k : before.honest) → old.honest → (entries : Entries) → KeepsIn kept.version old.reads entries → length entries ≡ kept.count → KeepsChecked (copy k) entries
   copy_keeps k h entries keeps counted =
-      kept_copy kept.version is_format identity kept.count (before.size - 32 * (1 + kept.count)) old.reads (copy k) fits
-      (header_first identity (copied_records k) kept.count before.size (many k) room)
-      (each_copied k h) (zeros_behind identity (copied_records k) kept.count before.size (many k) room) entries keeps counted
+      kept_copy kept.version is_format identity kept.count (before.size - 32 * (1 + kept.count)) old.reads (copy k) fits back
+      (header_first journal_kind identity long (copied_records k) kept.count before.size (many k) room)
+      (each_copied k h) (zeros_behind journal_kind identity long (copied_records k) kept.count before.size (many k) room) entries keeps counted
 
   abbrev tail : before.honest → List ℕ
   tail k = copied_records k ++ replicate (before.size - 32 - length (copied_records k)) 0
@@ -141,8 +142,8 @@ module _ (one_list : (bytes : List ℕ) (one two : Entries) → KeepsChecked byt
     reads_copy k =
         let mid_honest : mid.honest = rest.nature.honest.0 k in
         whole_by_head (copy k) after.reads (differs_then 0 2 (copy k) mid.reads after.reads (rest.rest k).3 (settled.rest mid_honest))
-        (settled.gate_is mid_honest ∙ sym (in_front identity (tail k) 0 (omega arith) ∙ gate_in journal_kind identity))
-        (settled.mark_is mid_honest ∙ sym (in_front identity (tail k) 1 (omega arith) ∙ mark_in journal_kind identity))
+        (settled.gate_is mid_honest ∙ sym (in_front journal_kind identity long (tail k) 0 (omega arith) ∙ gate_in journal_kind identity))
+        (settled.mark_is mid_honest ∙ sym (in_front journal_kind identity long (tail k) 1 (omega arith) ∙ mark_in journal_kind identity))
 
     leaves : before.honest → LeavesReads after
     leaves k = settled.leaves (rest.nature.honest.0 k) (rest.leaves k)
@@ -155,11 +156,11 @@ module _ (one_list : (bytes : List ℕ) (one two : Entries) → KeepsChecked byt
       nature = keeps_on before mid after rest.nature settled.nature;
       no_failure = settled.no_failure ∙ rest.no_failure;
       leaves = leaves;
-      header = λ k. ap (record_at 0) (reads_copy k) ∙ header_first identity (copied_records k) kept.count before.size (many k) room;
+      header = λ k. ap (record_at 0) (reads_copy k) ∙ header_first journal_kind identity long (copied_records k) kept.count before.size (many k) room;
       records = λ h k place less.
           subst (λ (l : List ℕ). IsRecordCopied kept.version identity place old.reads l) (sym (reads_copy k)) (each_copied k h place less);
       behind = λ k.
-          ap (drop (32 * (1 + kept.count))) (reads_copy k) ∙ zeros_behind identity (copied_records k) kept.count before.size (many k) room;
+          ap (drop (32 * (1 + kept.count))) (reads_copy k) ∙ zeros_behind journal_kind identity long (copied_records k) kept.count before.size (many k) room;
       keeps = λ h k entries keeps counted. finds_them one_list after entries (leaves k) (keeps_all k h entries keeps counted);
       sound = λ h k size entries keeps counted. record {
         size = (size.0, size.1, settled.nature.size ∙ rest.nature.size ∙ size.2);
@@ -174,8 +175,8 @@ module _ (one_list : (bytes : List ℕ) (one two : Entries) → KeepsChecked byt
   copied_in_part outside in_turn h entries keeps counted = λ k one unfinished.
       in_part_settled before.size before mid after rest.nature outside rest.leaves entries (copy k)
       (λ again. copy_keeps k h entries keeps counted)
-      (in_front identity (tail k) 0 (omega arith) ∙ gate_in journal_kind identity)
-      (in_front identity (tail k) 1 (omega arith) ∙ mark_in journal_kind identity)
-      (in_front identity (tail k) 2 (omega arith) ∙ third_in journal_kind identity)
-      (in_front identity (tail k) 15 (omega arith) ∙ length_in journal_kind identity)
+      (in_front journal_kind identity long (tail k) 0 (omega arith) ∙ gate_in journal_kind identity)
+      (in_front journal_kind identity long (tail k) 1 (omega arith) ∙ mark_in journal_kind identity)
+      (in_front journal_kind identity long (tail k) 2 (omega arith) ∙ third_in journal_kind identity)
+      (in_front journal_kind identity long (tail k) 15 (omega arith) ∙ length_in journal_kind identity)
       (λ again. (rest.rest k).3) in_turn k one unfinished

@@ -4,14 +4,13 @@ use Rattle.std.proofs.Math.Seq.{drop-append_seam}
 use Rattle.std.proofs.lemmas.Bool.{cases_lt}
 use Rattle.std.proofs.lemmas.List.{drop-drop, drop-take, length-append, take-append-le, take-take}
 use Rattle.duk_journal.specs.RecordFormat.{record_at}
-use Rattle.duk_journal.specs.declared.entry.Entry.{Entry}
 use Rattle.duk_journal_copy.specs.Version.{format_of}
 use Rattle.duk_journal_copy.specs.declared.convert.Spot.{Spot}
 use Rattle.duk_journal_copy.specs.declared.copy.CopyFault.{CopyFault}
 use Rattle.duk_journal_copy.specs.declared.copy.CopyFault.TheVariants.{Old, Changed, New}
 use Rattle.duk_journal_copy.specs.declared.copy.Kept.{Kept}
 use Rattle.duk_journal_copy.specs.declared.version.Version.{Version}
-use Rattle.duk_journal_copy.specs.inner.Convert.{IsConverted, spot_behind}
+use Rattle.duk_journal_copy.specs.inner.Convert.{IsConverted}
 use Rattle.duk_journal_copy.specs.inner.Copy.{AreConvertedFrom, CauseOf, IsPieceCopied, PieceUncopied, RecordsUncopied, StaysRead, new_spot, old_spot}
 use Rattle.duk_store.specs.Disk.{DiskState, HasFailed, PreservesDisk, range_of, written}
 use Rattle.duk_store.specs.Records.{HasContents}

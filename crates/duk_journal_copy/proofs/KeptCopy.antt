@@ -1,5 +1,5 @@
 -- A disk with the records that another keeps, copied one by one, keeps the same entries.
-use Rattle.std.proofs.Common.{◌≡◌, ◌∙◌, ◌↔◌, ◌+◌, ◌*◌, ◌-◌, ◌<◌, ◌≤◌, ◌^◌, ℕ, zero, suc, List, [], ◌∷◌, ap, arith, drop, get_or, length, refl, replicate, subst, sym}
+use Rattle.std.proofs.Common.{◌≡◌, ◌∙◌, ◌↔◌, ◌+◌, ◌*◌, ◌-◌, ◌<◌, ◌^◌, ℕ, zero, suc, List, [], ◌∷◌, ap, arith, drop, get_or, length, replicate, subst, sym}
 use Rattle.std.proofs.lemmas.List.{get_or-drop}
 use Rattle.duk_journal_copy.specs.Copy.{IsRecordCopied}
 use Rattle.duk_journal_copy.specs.Version.{KeepsIn, format_of}
@@ -13,7 +13,6 @@ use Rattle.duk_journal.specs.declared.entry.Entry.{Entry}
 use Rattle.duk_store.specs.Format.{FormatMeaning, IsFormat}
 use Rattle.duk_store.specs.Records as records
 use Rattle.duk_journal_copy.proofs.Begun.{gate_at}
-use Rattle.duk_journal_copy.proofs.HeaderBytes.{identity_back}
 use Rattle.duk_journal_copy.proofs.WrittenLists.{zero_of_zeros}
 
 -- a record of either format, and the same in version 2
@@ -79,7 +78,7 @@ module _ (format : FormatMeaning Entry) (is_format : IsFormat format) (identity 
       )
 
 -- records of zeros are closed
-closed_zeros : (place size : ℕ) (bytes : List ℕ) → drop (32 * place) bytes ≡ replicate size 0 → records.AreClosedFrom 32 place bytes
+pub closed_zeros : (place size : ℕ) (bytes : List ℕ) → drop (32 * place) bytes ≡ replicate size 0 → records.AreClosedFrom 32 place bytes
 closed_zeros place size bytes zeros = λ later past open_now.
     let far : ℕ = 32 * later - 32 * place in
     let gate : gate_of (record_at later bytes) ≡ 0 =
@@ -91,12 +90,13 @@ closed_zeros place size bytes zeros = λ later past open_now.
     omega (arith, gate, open_now)
 
 pub kept_copy : (version : Version) → IsFormat (format_of version) → (identity count size : ℕ) (old new : List ℕ) → identity < 2 ^ 64
+    → identity_of (header_of journal_kind identity) ≡ identity
     → record_at 0 new ≡ header_of journal_kind identity
     → ((place : ℕ) → place < count → IsRecordCopied version identity place old new)
     → drop (32 * (1 + count)) new ≡ replicate size 0
     → (entries : Entries) → KeepsIn version old entries → length entries ≡ count → KeepsChecked new entries
-kept_copy version is_format identity count size old new fits header each behind entries keeps many =
-    let own : records.identity_in checked_format new ≡ identity = ap identity_of header ∙ identity_back journal_kind identity fits in
+kept_copy version is_format identity count size old new fits back header each behind entries keeps many =
+    let own : records.identity_in checked_format new ≡ identity = ap identity_of header ∙ back in
     record {
       header = λ has. (identity, fits, header);
       listed = kept_from (format_of version) is_format identity count old new own

@@ -6,7 +6,6 @@ mod Fronts
 mod HeaderBytes
 mod InPart
 mod KeptCopy
-mod LedgerBytes
 mod LedgerCopied
 mod LedgerRecords
 mod RecordPlaces

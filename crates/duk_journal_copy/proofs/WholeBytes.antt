@@ -1,24 +1,20 @@
--- A journal's bytes: a header, records, and zeros behind them. They are written in turn, but for the first two.
+-- A file's bytes: a header, records, and zeros behind them. They are written in turn, but for the first two.
 use Rattle.std.proofs.Common.{◌≡◌, ◌∙◌, ◌⊎◌, inl, inr, ◌+◌, ◌*◌, ◌-◌, ◌<◌, ◌≤◌, ◌++◌, ℕ, List, ap, arith, drop, get_or, length, length-drop, replicate, sym, take}
 use Rattle.std.proofs.Math.Seq.{drop-append_seam, take-append_seam}
 use Rattle.std.proofs.lemmas.Bool.{cases_lt}
 use Rattle.std.proofs.lemmas.List.{get_or-append_right, get_or-drop, get_or_append_left, get_or_past, length-append, length-replicate}
-use Rattle.duk_journal.specs.Header.{header_of, journal_kind}
+use Rattle.duk_journal.specs.Header.{header_of}
 use Rattle.duk_journal.specs.RecordFormat.{record_at}
 use Rattle.duk_journal_copy.specs.inner.Head.{HasRestOf}
-use Rattle.duk_journal_copy.specs.inner.Rest.{journal_bytes}
+use Rattle.duk_journal_copy.specs.inner.Rest.{file_bytes}
 use Rattle.duk_store.specs.Disk.{written}
 use Rattle.duk_journal_copy.proofs.CopiedRecords.{drop_behind, record_behind, record_in_front}
-use Rattle.duk_journal_copy.proofs.HeaderBytes.{header_length}
 use Rattle.duk_journal_copy.proofs.WrittenLists.{at_written, before_written, length_written, written_behind}
 
 -- a header, and other bytes behind it
-module _ (identity : ℕ) (tail : List ℕ) where
+module _ (kind identity : ℕ) (long : length (header_of kind identity) ≡ 32) (tail : List ℕ) where
   abbrev header : List ℕ
-  header = header_of journal_kind identity
-
-  long : length header ≡ 32
-  long = header_length journal_kind identity
+  header = header_of kind identity
 
   whole_length : length (header ++ tail) ≡ 32 + length tail
   whole_length = length-append header tail ∙ omega (arith, long)
@@ -27,7 +23,7 @@ module _ (identity : ℕ) (tail : List ℕ) where
   in_front k less = get_or_append_left header tail 0 k (omega (arith, less, long))
 
   -- the rest of it is written: the header from its third byte on, and the other bytes
-  rest_of_whole : (l front last : List ℕ) → length l ≡ 32 + length tail → front ≡ written l 2 (drop 2 header) → last ≡ written front 32 tail
+  pub rest_of_whole : (l front last : List ℕ) → length l ≡ 32 + length tail → front ≡ written l 2 (drop 2 header) → last ≡ written front 32 tail
       → HasRestOf (header ++ tail) last
   rest_of_whole l front last size_is first second = record {
     same_length = ap length second ∙ length_written front tail 32 (omega (arith, front_length)) ∙ front_length ∙ sym whole_length;
@@ -68,46 +64,44 @@ module _ (identity : ℕ) (tail : List ℕ) where
       ]
 
 -- so many records behind a header, and zeros
-module _ (identity : ℕ) (records : List ℕ) (count size : ℕ) (many : length records ≡ 32 * count) (room : 32 * (1 + count) ≤ size) where
+module _ (kind identity : ℕ) (front_long : length (header_of kind identity) ≡ 32) (records : List ℕ) (count size : ℕ)
+    (many : length records ≡ 32 * count) (room : 32 * (1 + count) ≤ size) where
   abbrev zeros : List ℕ
   zeros = replicate (size - 32 - length records) 0
 
-  front_long : length (header_of journal_kind identity) ≡ 32
-  front_long = header_length journal_kind identity
-
-  pub header_first : record_at 0 (journal_bytes identity records size) ≡ header_of journal_kind identity
+  pub header_first : record_at 0 (file_bytes kind identity records size) ≡ header_of kind identity
   header_first =
-      ap (λ (n : ℕ). take n (journal_bytes identity records size)) (sym front_long)
-      ∙ take-append_seam (header_of journal_kind identity) (records ++ zeros)
+      ap (λ (n : ℕ). take n (file_bytes kind identity records size)) (sym front_long)
+      ∙ take-append_seam (header_of kind identity) (records ++ zeros)
 
-  pub record_in : (place : ℕ) → place < count → record_at (1 + place) (journal_bytes identity records size) ≡ record_at place records
+  pub record_in : (place : ℕ) → place < count → record_at (1 + place) (file_bytes kind identity records size) ≡ record_at place records
   record_in place less =
-      record_behind 1 place (header_of journal_kind identity) (records ++ zeros) front_long
+      record_behind 1 place (header_of kind identity) (records ++ zeros) front_long
       ∙ record_in_front place records zeros (omega (arith, less, many))
 
-  pub zeros_behind : drop (32 * (1 + count)) (journal_bytes identity records size) ≡ replicate (size - 32 * (1 + count)) 0
+  pub zeros_behind : drop (32 * (1 + count)) (file_bytes kind identity records size) ≡ replicate (size - 32 * (1 + count)) 0
   zeros_behind =
       let there : 32 * (1 + count) ≡ 32 + 32 * count = omega arith in
       let left : size - 32 - length records ≡ size - 32 * (1 + count) = omega (arith, many) in
-      ap (λ (n : ℕ). drop n (journal_bytes identity records size)) there
-      ∙ drop_behind 32 (32 * count) (header_of journal_kind identity) (records ++ zeros) front_long
+      ap (λ (n : ℕ). drop n (file_bytes kind identity records size)) there
+      ∙ drop_behind 32 (32 * count) (header_of kind identity) (records ++ zeros) front_long
       ∙ ap (λ (n : ℕ). drop n (records ++ zeros)) (sym many)
       ∙ drop-append_seam records zeros
       ∙ ap (λ (n : ℕ). replicate n 0) left
 
   -- and they are written in turn
-  pub rest_of_journal : (l front mid last : List ℕ) → length l ≡ size → front ≡ written l 2 (drop 2 (header_of journal_kind identity))
+  pub rest_of_file : (l front mid last : List ℕ) → length l ≡ size → front ≡ written l 2 (drop 2 (header_of kind identity))
       → mid ≡ written front 32 records → last ≡ written mid (32 * (1 + count)) (replicate (size - 32 * (1 + count)) 0)
-      → HasRestOf (journal_bytes identity records size) last
-  rest_of_journal l front mid last size_is first second third =
+      → HasRestOf (file_bytes kind identity records size) last
+  rest_of_file l front mid last size_is first second third =
       let left : size - 32 * (1 + count) ≡ size - 32 - length records = omega (arith, many) in
-      let part : length (drop 2 (header_of journal_kind identity)) ≡ 30 = length-drop 2 (header_of journal_kind identity) ∙ omega (arith, front_long) in
+      let part : length (drop 2 (header_of kind identity)) ≡ 30 = length-drop 2 (header_of kind identity) ∙ omega (arith, front_long) in
       let front_length : length front ≡ size =
-      ap length first ∙ length_written l (drop 2 (header_of journal_kind identity)) 2 (omega (arith, part, size_is, room)) ∙ size_is in
+      ap length first ∙ length_written l (drop 2 (header_of kind identity)) 2 (omega (arith, part, size_is, room)) ∙ size_is in
       let zeros_long : length zeros ≡ size - 32 - length records = length-replicate {A = ℕ} (size - 32 - length records) 0 in
       let tail_long : length l ≡ 32 + length (records ++ zeros) =
       size_is ∙ omega (arith, length-append records zeros, zeros_long, many, room) in
-      rest_of_whole identity (records ++ zeros) l front last tail_long first
+      rest_of_whole kind identity front_long (records ++ zeros) l front last tail_long first
       (third
       ∙ ap (λ (n : ℕ). written mid (32 * (1 + count)) (replicate n 0)) left
       ∙ ap (λ (xs : List ℕ). written xs (32 * (1 + count)) zeros) second

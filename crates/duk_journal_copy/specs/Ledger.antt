@@ -1,8 +1,8 @@
 -- A ledger's disk that is written with the numbers of a ledger in the form of a log: this project's own.
-use Rattle.std.specs.Prelude.{◌≡◌, ◌≢◌, ◌⊎◌, ℕ, List, None, length, map}
+use Rattle.std.specs.Prelude.{◌≡◌, ◌≢◌, ◌⊎◌, ◌<◌, ◌+◌, ◌*◌, ◌-◌, ◌^◌, ℕ, List, None, drop, map, replicate}
 use Rattle.std.specs.List.{All}
 use Rattle.duk_journal.specs.Header.{header_of}
-use Rattle.duk_journal.specs.RecordFormat.{record_at}
+use Rattle.duk_journal.specs.RecordFormat.{record_at, record_length}
 use Rattle.duk_journal_copy.specs.InPart.{BeginsAsNone, IsUnfinished}
 use Rattle.duk_journal_copy.specs.declared.ledger.LedgerCopyFault.{LedgerCopyFault}
 use Rattle.duk_journal_copy.specs.declared.ledger.LedgerCopyFault.TheVariants as fault
@@ -29,20 +29,18 @@ issues_of numbers = map issue_of numbers
 abbrev pub AreInitial : Numbers → Type 0
 AreInitial numbers = All (λ number. number.counter ≡ 0) numbers
 
--- a log counts the numbers that a restart of it finds, as it does once it is brought up
-abbrev pub CountsNumbers : StoreState Numbers → ℕ → Type 0
-CountsNumbers old count =
-    old.honest → (numbers : Numbers) → FindsOnly old numbers → length numbers ≡ count
-
 -- a disk is written anew, over all its bytes, and a stop leaves what was written: a header with this
--- identity, a record for each number that a log keeps, and zeros. A ledger over it finds these numbers
--- in their order, and nothing else, whenever it is stopped, and never finds it damaged
-pub record IsLedgerCopied (identity : ℕ) (old : StoreState Numbers) (before after : DiskState)
-    : Type 0 where
+-- identity, a record for each number of a log, which counts so many, and zeros. A ledger over it finds
+-- these numbers in their order, and nothing else, whenever it is stopped, and never finds it damaged
+pub record IsLedgerCopied
+    (identity count : ℕ) (old : StoreState Numbers) (before after : DiskState) : Type 0 where
+  pub identity_fits : identity < 2 ^ 64
   pub nature : PreservesDisk before after
   pub no_failure : after.failures ≡ before.failures
   pub leaves : before.honest → LeavesReads after
   pub header : before.honest → record_at 0 after.reads ≡ header_of ledger_kind identity
+  pub behind : before.honest → drop (record_length * (1 + count)) after.reads
+      ≡ replicate (before.size - record_length * (1 + count)) 0
   pub initial : old.honest → (numbers : Numbers) → FindsOnly old numbers → AreInitial numbers
   pub keeps : old.honest → before.honest → (numbers : Numbers) → FindsOnly old numbers
       → FindsOnly (records_state issued_format after None) (issues_of numbers)

@@ -33,6 +33,7 @@ pub fn write_journal<D: Disk>(disk: &mut D, identity: u64, zeros: &[u8]) -> Resu
     ensures in_part { LeavesInPart []
         (D.meaning.state_of disk.old) (D.meaning.state_of disk.new) }
 {
+    duk_journal::laws::headers();
     begin_file(disk, JOURNAL_KIND, identity, zeros)
 }
 
@@ -58,6 +59,7 @@ pub fn begin_file<D: Disk>(
         (D.meaning.state_of disk.old) (D.meaning.state_of disk.new) }
     ensures identity_fits { identity < 2 ^ 64 }
 {
+    duk_journal::laws::headers();
     let size = disk.size();
     write_front(disk, kind, identity)?;
     write_synced(disk, zeros, HEADER_LENGTH, size)?;
@@ -80,6 +82,7 @@ pub(crate) fn write_front<D: Disk>(disk: &mut D, kind: u8, identity: u64) -> Res
         → LeavesByte 15 (D.meaning.state_of disk.old) (D.meaning.state_of disk.new) }
     ensures fits { identity < 2 ^ 64 }
 {
+    duk_journal::laws::headers();
     let header = file_header(kind, identity);
     let bytes = header.as_slice();
     settle_byte(disk, LENGTH_PLACE as u64, RECORD_LENGTH as u8)?;

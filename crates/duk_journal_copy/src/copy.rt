@@ -72,6 +72,7 @@ pub fn write_copy<D: Disk, E: Disk>(
         → length entries ≡ kept.count
         → LeavesInPart entries (E.meaning.state_of new.old) (E.meaning.state_of new.new) }
 {
+    duk_journal::laws::headers();
     duk_journal::laws::one_list();
     kept.version.laws();
     let _size = old.size();
@@ -132,6 +133,7 @@ fn copy_rest<D: Disk, E: Disk>(
         (E.meaning.state_of new.old) (E.meaning.state_of new.new) }
     ensures length { length piece.new ≡ length piece.old }
 {
+    duk_journal::laws::headers();
     if write_front(new, JOURNAL_KIND, identity).is_err() {
         return Err(CopyFault::New);
     }

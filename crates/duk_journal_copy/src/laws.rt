@@ -50,4 +50,6 @@ pub fn begun()
         → record_at 0 (begun_bytes kind identity size) ≡ header_of kind identity }
     ensures closed { (kind identity size later : ℕ) → 32 ≤ size → 1 ≤ later
         → ¬ IsOpen (record_at later (begun_bytes kind identity size)) }
-{}
+{
+    duk_journal::laws::headers();
+}

@@ -1,10 +1,10 @@
 //! A ledger that keeps the numbers of one in the form of a log.
 
-ghost use Rattle.std.specs.Prelude.{◌≡◌, ◌+◌, ◌*◌, ◌≤◌, true, length, replicate, IfErr, IfNone, IfSome, OnOk};
-ghost use Rattle.duk_journal_copy.specs.Ledger.{CountsNumbers, IsLedgerCopied, LeavesIssuesInPart, LedgerUncopied, issues_of};
+ghost use Rattle.std.specs.Prelude.{◌≡◌, ◌+◌, ◌*◌, ◌≤◌, true, replicate, IfErr, IfNone, IfSome, OnOk};
+ghost use Rattle.duk_journal_copy.specs.Ledger.{IsLedgerCopied, LeavesIssuesInPart, LedgerUncopied, issues_of};
 ghost use Rattle.duk_journal_copy.specs.inner.Blank.{LeavesOutside};
 ghost use Rattle.duk_journal_copy.specs.inner.Ledger.{AreNumbersCopied, HasNoIssue, IsIssueIn, IsIssueWritten};
-ghost use Rattle.duk_store.specs.Disk.{HasFailed, PreservesDisk};
+ghost use Rattle.duk_store.specs.Disk.{HasFailed, PreservesBytes, PreservesDisk};
 ghost use Rattle.duk_store.specs.DiskRecords.{are_running, count_in, records_meaning};
 ghost use Rattle.duk_store.specs.Log.{Numbers};
 ghost use Rattle.duk_store.specs.LogFormat.{log_format};
@@ -35,7 +35,7 @@ pub enum LedgerCopyFault {
 /// ledger with this identity, and zeros over all bytes behind it, and syncs them. A ledger over that
 /// disk keeps the same numbers then, in their order, and of none how its key was made. The first two
 /// bytes are settled last, once all behind them is synced: a disk that begins as that of no ledger is
-/// none until they are.
+/// none until they are. The old ledger is read alone.
 ///
 /// Refused where a device step failed, and where a number has a transaction counter.
 pub fn write_ledger<D: Disk, E: Disk>(
@@ -47,9 +47,7 @@ pub fn write_ledger<D: Disk, E: Disk>(
     requires zeros { zeros.now ≡ replicate 65536 0 }
     requires running { are_running old.old.kept ≡ true }
     requires room { 32 * (1 + count_in old.old.kept) ≤ (E.meaning.state_of new.old).size }
-    ensures copied { OnOk result (CountsNumbers
-        ((records_meaning D.meaning (λ format. log_format)).state_of old.old)
-        (count_in old.old.kept) → IsLedgerCopied identity
+    ensures copied { OnOk result (IsLedgerCopied identity (count_in old.old.kept)
         ((records_meaning D.meaning (λ format. log_format)).state_of old.old)
         (E.meaning.state_of new.old) (E.meaning.state_of new.new)) }
     ensures failed { IfErr result (LedgerUncopied
@@ -59,13 +57,15 @@ pub fn write_ledger<D: Disk, E: Disk>(
     ensures nature { PreservesNature
         ((records_meaning D.meaning (λ format. log_format)).state_of old.old)
         ((records_meaning D.meaning (λ format. log_format)).state_of old.new) }
+    ensures bytes { PreservesBytes
+        (D.meaning.state_of old.old.disk) (D.meaning.state_of old.new.disk) }
     ensures in_part { (numbers : Numbers) → FindsOnly
         ((records_meaning D.meaning (λ format. log_format)).state_of old.old) numbers
-        → length numbers ≡ count_in old.old.kept
         → ((records_meaning D.meaning (λ format. log_format)).state_of old.old).honest
         → LeavesIssuesInPart (issues_of numbers)
         (E.meaning.state_of new.old) (E.meaning.state_of new.new) }
 {
+    duk_journal::laws::headers();
     duk_ledger::laws::one_list();
     let count = old.len();
     let end = new.size();
@@ -102,6 +102,8 @@ fn copy_numbers<D: Disk, E: Disk>(
     ensures nature { PreservesNature
         ((records_meaning D.meaning (λ format. log_format)).state_of old.old)
         ((records_meaning D.meaning (λ format. log_format)).state_of old.new) }
+    ensures bytes { PreservesBytes
+        (D.meaning.state_of old.old.disk) (D.meaning.state_of old.new.disk) }
     ensures outside { LeavesOutside 32 (32 * (1 + count))
         (E.meaning.state_of new.old) (E.meaning.state_of new.new) }
 {

@@ -1,18 +1,20 @@
 -- What is known of a ledger in the form of a log that is brought up, and then copied.
 use Rattle.std.proofs.Common.{◌≡◌, ◌≢◌, ◌∙◌, ◌+◌, ◌*◌, ◌-◌, ◌/◌, ◌^◌, ◌≤◌, ◌∷◌, Bool, ap, arith, drop, ℕ, List, [], inl, inr, length, length-drop, refl, subst, sym, true}
-use Rattle.std.proofs.lemmas.List.{length-take}
+use Rattle.std.proofs.lemmas.List.{length-map, length-take}
 use Rattle.std.specs.Prelude.{◌⊎◌, if◌then◌else◌, slice_index}
 use Rattle.duk_journal_copy.specs.InPart.{IsUnfinished}
-use Rattle.duk_journal_copy.specs.Ledger.{AreInitial, CountsNumbers, LeavesIssuesInPart, issues_of}
-use Rattle.duk_journal_copy.specs.declared.version.Version.TheVariants.{One}
+use Rattle.duk_journal_copy.specs.Ledger.{AreInitial, IsLedgerCopied, LeavesIssuesInPart, issue_of, issues_of}
+use Rattle.duk_journal_copy.specs.declared.version.Version.TheVariants.{One, Two}
 use Rattle.duk_ledger.specs.IssuedFormat.{issued_format}
+use Rattle.duk_ledger.specs.Ledger.{KeepsIssues}
 use Rattle.duk_service.specs.CopyLedger.{HasCopiedLedger, IsCopyLedgerRefused, IsLedgerDisk, IsNoLedgerOrCopy, IsOldLedger, ledger_copy_size, old_ledger_meaning, old_ledger_state}
 use Rattle.duk_service.specs.LogFiles.{BeginsUnfinished, DiskKnown, IsDisk, MakingKnown}
 use Rattle.duk_service.specs.NewFile.{IsNoLedger, IsUnmade}
+use Rattle.duk_service.specs.OwnFiles.{IsLedgerOf}
 use Rattle.duk_service.specs.declared.copy_ledger.CopyLedgerFault.{CopyLedgerFault}
 use Rattle.duk_service.specs.declared.copy_ledger.CopyLedgerFault.TheVariants as fault
 use Rattle.duk_service.specs.inner.CopyLedger.{IsLedgerMade, IsNoneOrLedger, IsNotRead, IsNotUp, IsOldUnopened, IsUp, LedgerNotKept, LedgerNotMade}
-use Rattle.duk_store.specs.Disk.{DiskMeaning, DiskState, LeavesItsSize}
+use Rattle.duk_store.specs.Disk.{DiskMeaning, DiskState, LeavesItsSize, LeavesWithin, PreservesBytes, ReadsMayStay}
 use Rattle.duk_store.specs.DiskLog.{DiskLogOf, new_disk_log}
 use Rattle.duk_store.specs.DiskRecords.{MayFindItems, are_running, count_in, records_meaning}
 use Rattle.duk_store.specs.Listed.{ListRestartFailed, ListRestarted, length_of, room_of}
@@ -23,6 +25,7 @@ use Rattle.duk_store.specs.StoreState.{FindsOnly, StoreState}
 use Rattle.duk_store.specs.declared.fault.StoreFault.{StoreFault}
 use Rattle.duk_store.specs.declared.log_format.LogFormat.{LogFormat}
 use Rattle.duk_tree.specs.Serial.{Serial}
+use Rattle.duk_service.proofs.OwnLedger.{own_ledger}
 
 -- ---- what is left of a disk that was made
 
@@ -36,12 +39,12 @@ left_unwritten none old made begins = λ honest numbers finds h size bytes left.
 
 -- one that is written in part, or whole
 pub left_written : ((bytes : List ℕ) → slice_index bytes 0 ≡ 1 → slice_index bytes 1 ≢ 0xD5 → slice_index bytes 15 ≡ 32 → IsNoLedger bytes) → (old : StoreState Numbers)
-    (count : ℕ) (made last : DiskState) → BeginsUnfinished made → CountsNumbers old count
-    → ((numbers : Numbers) → FindsOnly old numbers → length numbers ≡ count → old.honest → LeavesIssuesInPart (issues_of numbers) made last)
+    (made last : DiskState) → BeginsUnfinished made
+    → ((numbers : Numbers) → FindsOnly old numbers → old.honest → LeavesIssuesInPart (issues_of numbers) made last)
     → IsNoneOrLedger old made last
-left_written none old count made last begins counted part = λ honest numbers finds h size bytes left.
+left_written none old made last begins part = λ honest numbers finds h size bytes left.
     let begun = begins h size in
-    elim (part numbers finds (counted honest numbers finds) honest h begun.0 begun.1 bytes left) [
+    elim (part numbers finds honest h begun.0 begun.1 bytes left) [
       | inl unfinished ↦ inl (none bytes unfinished.gate unfinished.mark unfinished.behind_number)
       | inr keeps ↦ inr keeps
     ]
@@ -80,16 +83,15 @@ doubled_room count size records is inside =
 pub comes_up : {D V : Type 0} (meaning : DiskMeaning D) (old new : DiskLogOf D) (takes : V → Serial → V → Type 0) (visitor visited : V) (count : ℕ)
     → LeavesItsSize (meaning.state_of new.disk) → (meaning.state_of new.disk).size ≡ (meaning.state_of old.disk).size
     → ListRestarted (records_meaning meaning (λ (format : LogFormat). log_format)) takes old new visitor visited count
-    → count_in new.kept ≡ count → IsUp meaning old new
-comes_up meaning old new takes visitor visited count its_size same_size up counted = record {
+    → count_in new.kept ≡ count → LeavesWithin (meaning.state_of old.disk) (meaning.state_of new.disk) → IsUp meaning old new
+comes_up meaning old new takes visitor visited count its_size same_size up counted restored = record {
   numbers = up.taken.items;
   restarted = record {
     settles = record { nature = up.nature; no_failure = up.no_failure; runs = up.runs; finds = λ honest. (up.taken.found honest).finds };
     was_found = λ honest. (up.taken.found honest).was_found;
   };
-  counted = λ honest numbers finds.
-      let same : numbers ≡ up.taken.items = ((up.taken.found (up.nature.honest.1 honest)).finds numbers).0 ((finds numbers).1 refl) in
-      ap (λ (it : Numbers). length it) same ∙ up.taken.counted ∙ sym counted;
+  counted = up.taken.counted ∙ sym counted;
+  restored = restored;
   doubled = doubled;
 }
   where
@@ -190,11 +192,36 @@ module _ {D : Type 0} (meaning : DiskMeaning D) (known : DiskKnown D) (making : 
   not_read old' (inl failed) = inl failed
   not_read old' (inr counted) = inr (λ honest. counted (still_honest honest) up.numbers (finds honest))
 
-  pub has_copied_ledger : (identity : ℕ)
-      → IsLedgerMade identity meaning making (ledger_copy_size meaning last) (old_ledger_state meaning last)
+  -- it is read alone
+  old_stays : (after : DiskLogOf D) → PreservesBytes (meaning.state_of last.disk) (meaning.state_of after.disk)
+      → LeavesWithin (meaning.state_of opened) (meaning.state_of after.disk)
+  old_stays after same = λ honest bytes left. up.restored honest bytes ((same.may_leave bytes).0 left)
+
+  -- its copy keeps the numbers in front of all zeros
+  copy_is_own : (identity : ℕ) → ((disk : D) → LeavesItsSize (meaning.state_of disk)) → ((disk : D) → ReadsMayStay (meaning.state_of disk))
+      → (made copy : D) → (meaning.state_of made).size ≡ ledger_copy_size meaning last
+      → IsLedgerCopied identity (count_in last.kept) (old_ledger_state meaning last) (meaning.state_of made) (meaning.state_of copy)
+      → (meaning.state_of opened).honest → (meaning.state_of made).honest → IsLedgerOf Two (meaning.state_of copy).reads
+  copy_is_own identity its_size may_stay made copy size_is written honest new_honest =
+      let count : ℕ = count_in last.kept in
+      let reads : List ℕ = (meaning.state_of copy).reads in
+      let now : (meaning.state_of copy).honest = written.nature.honest.0 new_honest in
+      let held : MayFindItems issued_format (meaning.state_of copy) (issues_of up.numbers) =
+      (written.keeps (still_honest honest) new_honest up.numbers (finds honest) (issues_of up.numbers)).1 refl in
+      let keeps : KeepsIssues reads (issues_of up.numbers) =
+      subst (λ (l : List ℕ). KeepsIssues l (issues_of up.numbers)) ((written.leaves new_honest held.0).0 held.1) held.2 in
+      own_ledger identity count (length_of (old_ledger_meaning meaning) last + room_of (old_ledger_meaning meaning) last)
+      ((meaning.state_of made).size - 32 * (1 + count)) reads (issues_of up.numbers) written.identity_fits
+      (its_size copy now reads (may_stay copy now) ∙ written.nature.size ∙ size_is)
+      (written.header new_honest) (written.behind new_honest) keeps (length-map up.numbers issue_of ∙ up.counted)
+
+  pub has_copied_ledger : (identity : ℕ) → ((disk : D) → LeavesItsSize (meaning.state_of disk)) → ((disk : D) → ReadsMayStay (meaning.state_of disk))
+      → (after : DiskLogOf D) → PreservesBytes (meaning.state_of last.disk) (meaning.state_of after.disk)
+      → IsLedgerMade identity (count_in last.kept) meaning making (ledger_copy_size meaning last) (old_ledger_state meaning last)
       → HasCopiedLedger identity meaning known making
-  has_copied_ledger identity copy = record {
+  has_copied_ledger identity its_size may_stay after same copy = record {
     old = old_ledger;
+    after = after;
     made = copy.made;
     last = copy.last;
     is_made = copy.is_made;
@@ -205,27 +232,30 @@ module _ {D : Type 0} (meaning : DiskMeaning D) (known : DiskKnown D) (making : 
     sound = λ honest new_honest. copy.kept.written.sound (still_honest honest) new_honest
         (copy_is_records (length_of (old_ledger_meaning meaning) last + room_of (old_ledger_meaning meaning) last) (meaning.state_of copy.made).size copy.kept.size_is)
         up.numbers (finds honest);
+    own = copy_is_own identity its_size may_stay copy.made copy.last copy.kept.size_is copy.kept.written;
+    old_stays = old_stays after same;
     folder = copy.kept.synced;
   }
 
-  pub ledger_not_copied : (after : DiskLogOf D) (why : CopyLedgerFault)
+  pub ledger_not_copied : (after : DiskLogOf D) (why : CopyLedgerFault) → PreservesBytes (meaning.state_of last.disk) (meaning.state_of after.disk)
       → LedgerNotMade meaning making (ledger_copy_size meaning last) (old_ledger_state meaning last) (old_ledger_state meaning after) why
       → IsCopyLedgerRefused meaning known making why
-  ledger_not_copied after fault.Failed refused = inr (inr (record {
+  ledger_not_copied after fault.Failed same refused = inr (inr (record {
     old = old_ledger;
     after = after;
     made = refused.made;
     last = refused.last;
     is_made = refused.is_made;
     cause = not_read (old_ledger_state meaning after) refused.cause;
+    old_stays = old_stays after same;
     left_is = left_copy (meaning.state_of refused.made) (meaning.state_of refused.last) refused.left_is;
   }))
-  ledger_not_copied after fault.Unmade refused =
-      record { old = old_ledger; unmade = inr (part_copied (ledger_copy_size meaning last) refused) }
-  ledger_not_copied after fault.OutOfMemory refused = absurd refused
-  ledger_not_copied after fault.Unopened refused = absurd refused
-  ledger_not_copied after fault.NewVersion refused = absurd refused
+  ledger_not_copied after fault.Unmade same refused =
+      record { old = old_ledger; after = after; old_stays = old_stays after same; unmade = inr (part_copied (ledger_copy_size meaning last) refused) }
+  ledger_not_copied after fault.OutOfMemory same refused = absurd refused
+  ledger_not_copied after fault.Unopened same refused = absurd refused
+  ledger_not_copied after fault.NewVersion same refused = absurd refused
 
   -- no file has so many bytes
   pub no_ledger_size : 2 ^ 64 ≤ ledger_copy_size meaning last → IsCopyLedgerRefused meaning known making fault.Unmade
-  no_ledger_size large = record { old = old_ledger; unmade = inl large }
+  no_ledger_size large = record { old = old_ledger; after = last; old_stays = up.restored; unmade = inl large }

@@ -5,9 +5,9 @@ use Rattle.std.proofs.lemmas.Bool.{cases_lt, false≢true}
 use Rattle.std.proofs.lemmas.Grind.{same_number_lists}
 use Rattle.std.proofs.lemmas.List.{drop_all, drop_at, get_or-drop, get_or-replicate, get_or-take, length-replicate, length-take, length-take-le, take-append-drop, take_all, take_at}
 use Rattle.std.specs.List.{All}
-use Rattle.duk_store.specs.Disk.{DiskState, range_of}
+use Rattle.duk_store.specs.Disk.{DiskState}
 use Rattle.duk_service.specs.GrowJournal.{IsGrowable}
-use Rattle.duk_service.specs.LeftRecords.{AreClosedFrom, AreInGroups, HasFront, IsForeignAt, IsFront, IsLedgerFront, IsLeftBy, IsOpen, IsWhole, IsZero, followers_in, record_at, record_length}
+use Rattle.duk_service.specs.LeftRecords.{AreClosedFrom, AreInGroups, HasFront, IsForeignAt, IsFront, IsLedgerFront, IsLeftBy, IsOpen, IsZero, followers_in, record_at, record_length}
 use Rattle.duk_service.specs.inner.GrowJournal.{AreSeenZeros, AreZerosBehind, IsPartSeen, IsSeenToGrow, front_of}
 use Rattle.duk_service.specs.inner.LeftRecords.{HasMark, IsFrontSeen, IsLastIn, IsSeen, LacksMark}
 use Rattle.duk_service.specs.declared.left_records.Mark.{Mark}
@@ -61,7 +61,7 @@ part_zero n a b bytes order zeros k d inside =
     ∙ zeros (a + k - b) d (omega (arith, far, order, length-drop b bytes))
 
 -- a record behind the front is zero, or there is none
-behind_zero : (layout : Layout) (records place : ℕ) (bytes : List ℕ) → AreZerosBehind layout records bytes → records ≤ place → IsZero (record_at layout place bytes)
+pub behind_zero : (layout : Layout) (records place : ℕ) (bytes : List ℕ) → AreZerosBehind layout records bytes → records ≤ place → IsZero (record_at layout place bytes)
 behind_zero Log records place bytes zeros past = part_zero 16 (16 * place) (16 * records) bytes (omega (arith, past)) zeros
 behind_zero (Journal version) records place bytes zeros past = part_zero 32 (32 * place) (32 * records) bytes (omega (arith, past)) zeros
 behind_zero (Ledger One) records place bytes zeros past = part_zero 16 (16 * place) (16 * records) bytes (omega (arith, past)) zeros
@@ -148,7 +148,7 @@ take_front (Journal version) records front zeros size = take_at front zeros (32 
 take_front (Ledger One) records front zeros size = take_at front zeros (16 * records) size
 take_front (Ledger Two) records front zeros size = take_at front zeros (32 * records) size
 
-zeros_of : (n : ℕ) → All {X = ℕ} (λ byte. byte ≡ 0) (replicate n 0)
+pub zeros_of : (n : ℕ) → All {X = ℕ} (λ byte. byte ≡ 0) (replicate n 0)
 zeros_of n k d inside = get_or-replicate n k 0 d (omega (arith, inside, length-replicate {A = ℕ} n 0))
 
 -- its front and its zeros are those that its size tells

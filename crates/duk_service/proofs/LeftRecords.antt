@@ -83,7 +83,7 @@ no_record (Ledger Two) place records bytes size past = ap (take 32) (drop_all (3
 pub none_is_zero : IsZero []
 none_is_zero = λ k d inside. absurd (let never : ⊥ = omega (arith, inside) in never)
 
-zero_gate : (bytes : List ℕ) → IsZero bytes → gate_of bytes ≡ 0
+pub zero_gate : (bytes : List ℕ) → IsZero bytes → gate_of bytes ≡ 0
 zero_gate [] zero = refl
 zero_gate (b ∷ bs) zero = zero 0 0 (omega arith)
 

@@ -10,4 +10,5 @@ mod Results
 mod OverDisks
 mod SeenDisks
 mod NewFiles
+mod OwnLedger
 mod FrontRecords

@@ -15,9 +15,9 @@ use Rattle.duk_service.specs.declared.copy_ledger.CopyLedgerFault.TheVariants as
 use Rattle.duk_service.specs.declared.left_records.RecordFormat.TheVariants.{Ledger}
 use Rattle.duk_service.specs.declared.new_file.NewFileFault.TheVariants.{OutOfMemory, Unmade}
 use Rattle.duk_service.specs.declared.own_files.OpenFault.TheVariants as open_fault
-use Rattle.duk_store.specs.Disk.{DiskMeaning, DiskState, HasFailed}
+use Rattle.duk_store.specs.Disk.{DiskMeaning, DiskState, HasFailed, LeavesWithin}
 use Rattle.duk_store.specs.DiskLog.{DiskLogOf, new_disk_log}
-use Rattle.duk_store.specs.DiskRecords.{IsSoundDisk, records_meaning, records_state}
+use Rattle.duk_store.specs.DiskRecords.{IsSoundDisk, count_in, records_meaning, records_state}
 use Rattle.duk_store.specs.Listed.{ListMeaning, length_of, room_of}
 use Rattle.duk_store.specs.Log.{Numbers}
 use Rattle.duk_store.specs.LogFormat.{log_format}
@@ -67,21 +67,27 @@ ledger_size_for {D} {meaning} old = ledger_copy_size meaning old.last
 -- what `copy-ledger` makes: OLD is brought up, and keeps the numbers of initial keys; a file with its
 -- room is made, what OLD keeps is written over all of its disk with this identity, and synced, and its
 -- folder is synced. Where both disks are honest, a ledger over the file finds the numbers of OLD in
--- their order, of none how its key was made, and nothing else
+-- their order, of none how its key was made, and nothing else, and its bytes are such as a ledger of
+-- version 2 leaves, so that it is opened as one. OLD is as it was: a stop leaves nothing of it that it
+-- could not leave before
 pub record HasCopiedLedger (identity : ℕ) {D : Type 0} (meaning : DiskMeaning D)
     (known : DiskKnown D) (making : MakingKnown D) : Type 0 where
   pub old : IsOldLedger meaning known
+  pub after : DiskLogOf D
   pub made : D
   pub last : D
   pub is_made : IsDisk (making.disk (ledger_size_for old)) made
   pub size_is : (meaning.state_of made).size ≡ ledger_size_for old
-  pub written : IsLedgerCopied identity (old_ledger_state meaning old.last)
+  pub written : IsLedgerCopied identity (count_in old.last.kept) (old_ledger_state meaning old.last)
       (meaning.state_of made) (meaning.state_of last)
   pub initial : (meaning.state_of old.opened).honest → AreInitial old.numbers
   pub finds : (meaning.state_of old.opened).honest → (meaning.state_of made).honest
       → FindsOnly (records_state issued_format (meaning.state_of last) None) (issues_of old.numbers)
   pub sound : (meaning.state_of old.opened).honest → (meaning.state_of made).honest
       → IsSoundDisk issued_format (meaning.state_of last)
+  pub own : (meaning.state_of old.opened).honest → (meaning.state_of made).honest
+      → IsLedgerOf Two (meaning.state_of last).reads
+  pub old_stays : LeavesWithin (meaning.state_of old.opened) (meaning.state_of after.disk)
   pub folder : IsFolderSynced making.folder
 
 -- a device step failed where OLD was looked at, or no ledger leaves its bytes: no file is made
@@ -115,7 +121,7 @@ IsNoLedgerOrCopy meaning known old made last =
     (meaning.state_of old.opened).honest → IsNoLedgerOrWhole (issues_of old.numbers) made last
 
 -- OLD is brought up, a file is made for it, and then a device step of OLD failed, or a number is that of
--- no initial key
+-- no initial key. OLD is as it was
 pub record IsOldUncopied {D : Type 0} (meaning : DiskMeaning D) (known : DiskKnown D)
     (making : MakingKnown D) : Type 0 where
   pub old : IsOldLedger meaning known
@@ -125,12 +131,16 @@ pub record IsOldUncopied {D : Type 0} (meaning : DiskMeaning D) (known : DiskKno
   pub is_made : IsDisk (making.disk (ledger_size_for old)) made
   pub cause : ((meaning.state_of after.disk).failures ≢ (meaning.state_of old.last.disk).failures)
       ⊎ ((meaning.state_of old.opened).honest → ¬ AreInitial old.numbers)
+  pub old_stays : LeavesWithin (meaning.state_of old.opened) (meaning.state_of after.disk)
   pub left_is : IsNoLedgerOrCopy meaning known old (meaning.state_of made) (meaning.state_of last)
 
--- OLD is brought up, and no file is made for it, or not whole; or no file has so many bytes
+-- OLD is brought up, and no file is made for it, or not whole; or no file has so many bytes. OLD is as
+-- it was
 pub record IsLedgerCopyUnmade {D : Type 0} (meaning : DiskMeaning D) (known : DiskKnown D)
     (making : MakingKnown D) : Type 0 where
   pub old : IsOldLedger meaning known
+  pub after : DiskLogOf D
+  pub old_stays : LeavesWithin (meaning.state_of old.opened) (meaning.state_of after.disk)
   pub unmade : (2 ^ 64 ≤ ledger_size_for old)
       ⊎ IsUnmade meaning making (ledger_size_for old) (IsNoLedgerOrCopy meaning known old)
 

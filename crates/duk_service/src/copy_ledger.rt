@@ -1,11 +1,11 @@
 //! The command `copy-ledger`.
 
 ghost use Rattle.std.specs.Prelude.{◌≡◌, ◌≤◌, ◌+◌, ◌*◌, ◌^◌, true, IfErr, IfNone, IfOk, IfSome, OnOk, length, replicate};
-ghost use Rattle.duk_journal_copy.specs.Ledger.{CountsNumbers};
 ghost use Rattle.duk_journal_copy.specs.declared.version.Version.TheVariants.{One as OldVersion};
 ghost use Rattle.duk_service.specs.CopyLedger.{HasCopiedLedger, IsCopyLedgerRefused, IsLedgerDisk, copy_ledger_line, ledger_copy_size, old_ledger_state};
 ghost use Rattle.duk_service.specs.LogFiles.{BeginsUnfinished};
 ghost use Rattle.duk_service.specs.inner.CopyLedger.{IsLedgerKept, IsLedgerMade, IsNoneOrLedger, IsNotUp, IsOldUnopened, IsUp, LedgerNotKept, LedgerNotMade};
+ghost use Rattle.duk_store.specs.Disk.{PreservesBytes};
 ghost use Rattle.duk_store.specs.DiskRecords.{are_running, count_in};
 
 use crate::log_files::{Access, LogFiles};
@@ -143,14 +143,14 @@ fn make_new<S: LogFiles>(
     requires own { S.may_make files.now file.now }
     requires zeros { zeros.now ≡ replicate 65536 0 }
     requires running { are_running old.old.kept ≡ true }
-    requires counted { CountsNumbers (old_ledger_state S.Disk.meaning old.old)
-        (count_in old.old.kept) }
     requires room { 32 * (1 + count_in old.old.kept) ≤ size }
-    ensures made { OnOk result (IsLedgerMade identity S.Disk.meaning
+    ensures made { OnOk result (IsLedgerMade identity (count_in old.old.kept) S.Disk.meaning
         (S.making files.now file.now) size (old_ledger_state S.Disk.meaning old.old)) }
     ensures refused { IfErr result (LedgerNotMade S.Disk.meaning
         (S.making files.now file.now) size
         (old_ledger_state S.Disk.meaning old.old) (old_ledger_state S.Disk.meaning old.new)) }
+    ensures bytes { PreservesBytes (S.Disk.meaning.state_of old.old.disk)
+        (S.Disk.meaning.state_of old.new.disk) }
 {
     let Ok(mut disk) = files.make_disk(file, size) else {
         return Err(CopyLedgerFault::Unmade);
@@ -178,16 +178,16 @@ fn keep_new<S: LogFiles>(
     requires own { S.may_make files.now file.now }
     requires zeros { zeros.now ≡ replicate 65536 0 }
     requires running { are_running old.old.kept ≡ true }
-    requires counted { CountsNumbers (old_ledger_state S.Disk.meaning old.old)
-        (count_in old.old.kept) }
     requires room { 32 * (1 + count_in old.old.kept) ≤ size }
     requires begins { BeginsUnfinished (S.Disk.meaning.state_of disk.old) }
-    ensures kept { OnOk result (IsLedgerKept identity (S.making files.now file.now).folder size
-        (old_ledger_state S.Disk.meaning old.old)
+    ensures kept { OnOk result (IsLedgerKept identity (count_in old.old.kept)
+        (S.making files.now file.now).folder size (old_ledger_state S.Disk.meaning old.old)
         (S.Disk.meaning.state_of disk.old) (S.Disk.meaning.state_of disk.new)) }
     ensures refused { IfErr result (LedgerNotKept (S.making files.now file.now).folder size
         (old_ledger_state S.Disk.meaning old.old) (old_ledger_state S.Disk.meaning old.new)
         (S.Disk.meaning.state_of disk.old) (S.Disk.meaning.state_of disk.new)) }
+    ensures bytes { PreservesBytes (S.Disk.meaning.state_of old.old.disk)
+        (S.Disk.meaning.state_of old.new.disk) }
     ensures left { IsNoneOrLedger (old_ledger_state S.Disk.meaning old.old)
         (S.Disk.meaning.state_of disk.old) (S.Disk.meaning.state_of disk.new) }
 {

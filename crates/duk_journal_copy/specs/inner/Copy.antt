@@ -1,5 +1,6 @@
 -- What only private functions and proofs say beside `Copy.antt`: this project's own.
 use Rattle.std.specs.Prelude.{◌≡◌, ◌+◌, ◌*◌, ◌-◌, ◌<◌, ℕ, List, length}
+use Rattle.duk_journal.specs.Header.{journal_kind}
 use Rattle.duk_journal.specs.RecordFormat.{record_at}
 use Rattle.duk_journal.specs.declared.entry.Entry.{Entry}
 use Rattle.duk_journal_copy.specs.Version.{format_of}
@@ -10,7 +11,7 @@ use Rattle.duk_journal_copy.specs.declared.copy.Kept.{Kept}
 use Rattle.duk_journal_copy.specs.declared.version.Version.{Version}
 use Rattle.duk_journal_copy.specs.inner.Convert.{IsConverted, spot_behind}
 use Rattle.duk_journal_copy.specs.inner.Head.{HasRestOf}
-use Rattle.duk_journal_copy.specs.inner.Rest.{journal_bytes}
+use Rattle.duk_journal_copy.specs.inner.Rest.{file_bytes}
 use Rattle.duk_store.specs.Disk.{DiskState, HasFailed, LeavesReads, PreservesBytes, PreservesDisk, written}
 use Rattle.duk_store.specs.Records.{HasContents, identity_in}
 use Rattle.duk_store.specs.declared.fault.StoreFault.TheVariants.{Device}
@@ -63,7 +64,7 @@ pub record IsRestCopied (kept : Kept) (own identity : ℕ) (old old' new new' : 
   pub rest : new.honest → (records : List ℕ) × (length records ≡ 32 * kept.count)
       × (old.honest → AreConvertedFrom kept.version (old_spot kept.version own 0)
       (new_spot identity 0) kept.count old.reads records)
-      × HasRestOf (journal_bytes identity records new.size) new'.reads
+      × HasRestOf (file_bytes journal_kind identity records new.size) new'.reads
   pub leaves : new.honest → LeavesReads new'
 
 -- one of so many records of a disk, from a spot on, says nothing

@@ -1,6 +1,6 @@
 -- What only private functions and proofs say beside `CopyLedger.antt`: this project's own.
-use Rattle.std.specs.Prelude.{◌≡◌, ◌≢◌, ◌⊎◌, ◌+◌, ◌*◌, ℕ}
-use Rattle.duk_journal_copy.specs.Ledger.{AreInitial, CountsNumbers, IsLedgerCopied, issues_of}
+use Rattle.std.specs.Prelude.{◌≡◌, ◌≢◌, ◌⊎◌, ◌+◌, ◌*◌, ℕ, length}
+use Rattle.duk_journal_copy.specs.Ledger.{AreInitial, IsLedgerCopied, issues_of}
 use Rattle.duk_journal_copy.specs.declared.version.Version.TheVariants.{Two}
 use Rattle.duk_service.specs.CopyLedger.{IsLedgerDisk, IsNoLedgerOrWhole, IsNoOldLedger, ledger_copy_size, old_ledger_state}
 use Rattle.duk_service.specs.LogFiles.{DiskKnown, FolderKnown, IsDisk, IsFolderSynced, IsNoDisk, MakingKnown}
@@ -8,7 +8,7 @@ use Rattle.duk_service.specs.NewFile.{IsUnmade}
 use Rattle.duk_service.specs.declared.copy_ledger.CopyLedgerFault.{CopyLedgerFault}
 use Rattle.duk_service.specs.declared.copy_ledger.CopyLedgerFault.TheVariants as fault
 use Rattle.duk_service.specs.inner.NewFile.{IsNotKept}
-use Rattle.duk_store.specs.Disk.{DiskMeaning, DiskState}
+use Rattle.duk_store.specs.Disk.{DiskMeaning, DiskState, LeavesWithin}
 use Rattle.duk_store.specs.DiskLog.{DiskLogOf}
 use Rattle.duk_store.specs.DiskRecords.{count_in}
 use Rattle.duk_store.specs.Log.{Numbers}
@@ -23,11 +23,13 @@ IsOldUnopened {D} meaning known fault.NewVersion = (disk : D) × IsLedgerDisk Tw
 IsOldUnopened meaning known fault.Failed = IsNoOldLedger meaning known
 IsOldUnopened meaning known _ = ⊥
 
--- a ledger in the form of a log comes up with these numbers, and counts them
+-- a ledger in the form of a log comes up with these numbers, and counts them. A stop leaves nothing of
+-- it that it could not leave before
 pub record IsUp {D : Type 0} (meaning : DiskMeaning D) (old new : DiskLogOf D) : Type 0 where
   pub numbers : Numbers
   pub restarted : Restarted (old_ledger_state meaning old) (old_ledger_state meaning new) numbers
-  pub counted : CountsNumbers (old_ledger_state meaning new) (count_in new.kept)
+  pub counted : length numbers ≡ count_in new.kept
+  pub restored : LeavesWithin (meaning.state_of old.disk) (meaning.state_of new.disk)
   pub doubled : (meaning.state_of old.disk).honest
       → ledger_copy_size meaning new ≡ 2 * (meaning.state_of old.disk).size + 32
 
@@ -48,11 +50,11 @@ abbrev pub IsNotRead : StoreState Numbers → StoreState Numbers → Type 0
 IsNotRead old old' = (old'.failures ≢ old.failures)
     ⊎ (old.honest → (numbers : Numbers) → FindsOnly old numbers → ¬ AreInitial numbers)
 
--- a disk of this size is written with what a ledger keeps, and its folder is synced
-pub record IsLedgerKept (identity : ℕ) (folder : FolderKnown) (size : ℕ) (old : StoreState Numbers)
+-- a disk of this size is written with what a ledger keeps, which counts so many, and its folder is synced
+pub record IsLedgerKept (identity count : ℕ) (folder : FolderKnown) (size : ℕ) (old : StoreState Numbers)
     (before after : DiskState) : Type 0 where
   pub size_is : before.size ≡ size
-  pub written : IsLedgerCopied identity old before after
+  pub written : IsLedgerCopied identity count old before after
   pub synced : IsFolderSynced folder
 
 -- why it is not
@@ -63,12 +65,12 @@ LedgerNotKept folder size old old' before after fault.Unmade = IsNotKept folder 
 LedgerNotKept folder size old old' before after _ = ⊥
 
 -- a file of this size is made, with what a ledger keeps
-pub record IsLedgerMade (identity : ℕ) {D : Type 0} (meaning : DiskMeaning D)
+pub record IsLedgerMade (identity count : ℕ) {D : Type 0} (meaning : DiskMeaning D)
     (making : MakingKnown D) (size : ℕ) (old : StoreState Numbers) : Type 0 where
   pub made : D
   pub last : D
   pub is_made : IsDisk (making.disk size) made
-  pub kept : IsLedgerKept identity making.folder size old
+  pub kept : IsLedgerKept identity count making.folder size old
       (meaning.state_of made) (meaning.state_of last)
 
 -- one is made, and the ledger is not read

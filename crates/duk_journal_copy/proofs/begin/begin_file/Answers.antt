@@ -3,7 +3,7 @@ use Rattle.duk_journal_copy.specs.Blank.{begun_bytes}
 use Rattle.duk_journal_copy.specs.inner.Blank.{LeavesOutside}
 use Rattle.duk_journal_copy.specs.inner.Head.{HasRestOf}
 use Rattle.duk_store.specs.Disk.{written}
-use Rattle.duk_journal_copy.proofs.Begun.{in_front, rest_of_begun}
+use Rattle.duk_journal_copy.proofs.Begun.{begun_in_front, rest_of_begun}
 use Rattle.duk_journal_copy.proofs.HeaderBytes.{gate_in, length_in, mark_in, third_in}
 use Rattle.duk_journal_copy.proofs.InPart.{file_behind, file_settled}
 use Rattle.duk_journal_copy.proofs.Results.{on_ok}
@@ -50,11 +50,11 @@ returns-clause-begun g c =
           let h2 = second.written.nature.honest.0 h1 in
           let long : length old.reads ≡ old.size = g.D.Disk.leaves_its_size c.args.disk.now h old.reads (g.D.Disk.reads_may_stay c.args.disk.now h) in
           let rest : HasRestOf (begun_bytes c.args.kind c.args.identity old.size) mid.reads =
-          rest_of_begun c.args.kind c.args.identity old.size c.requires.room old.reads front.reads mid.reads long (first.front h)
+          rest_of_begun c.args.kind c.args.identity (c.headers.ensures.length c.args.kind c.args.identity) old.size c.requires.room old.reads front.reads mid.reads long (first.front h)
           (second.written.zeros h1 ∙ ap (λ (n : ℕ). written front.reads 32 (replicate (n - 32) 0)) size_is) in
           whole_by_head (begun_bytes c.args.kind c.args.identity old.size) new.reads (differs_then 0 2 (begun_bytes c.args.kind c.args.identity old.size) mid.reads new.reads rest (settled.rest h2))
-          (settled.gate_is h2 ∙ sym (in_front c.args.kind c.args.identity old.size c.requires.room 0 (omega arith) ∙ gate_in c.args.kind c.args.identity))
-          (settled.mark_is h2 ∙ sym (in_front c.args.kind c.args.identity old.size c.requires.room 1 (omega arith) ∙ mark_in c.args.kind c.args.identity));
+          (settled.gate_is h2 ∙ sym (begun_in_front c.args.kind c.args.identity (c.headers.ensures.length c.args.kind c.args.identity) old.size c.requires.room 0 (omega arith) ∙ gate_in c.args.kind c.args.identity))
+          (settled.mark_is h2 ∙ sym (begun_in_front c.args.kind c.args.identity (c.headers.ensures.length c.args.kind c.args.identity) old.size c.requires.room 1 (omega arith) ∙ mark_in c.args.kind c.args.identity));
       leaves = λ h. settled.leaves (second.written.nature.honest.0 (first.nature.honest.0 h)) (second.leaves (first.nature.honest.0 h));
     })
     c.settle_head.ensures.settled
@@ -75,12 +75,12 @@ returns-clause-in_part g c =
     (outside_wider 2 size 32 (size - 32) front mid (omega arith) (omega (arith, room)) c.write_synced.ensures.outside) in
     let rest : old.honest → HasRestOf (begun_bytes c.args.kind c.args.identity old.size) mid.reads = λ h.
     let long : length old.reads ≡ old.size = g.D.Disk.leaves_its_size c.args.disk.now h old.reads (g.D.Disk.reads_may_stay c.args.disk.now h) in
-    rest_of_begun c.args.kind c.args.identity old.size c.requires.room old.reads front.reads mid.reads long (first.front h)
+    rest_of_begun c.args.kind c.args.identity (c.headers.ensures.length c.args.kind c.args.identity) old.size c.requires.room old.reads front.reads mid.reads long (first.front h)
     (second.written.zeros (first.nature.honest.0 h) ∙ ap (λ (n : ℕ). written front.reads 32 (replicate (n - 32) 0)) c.size-size.ensures) in
     file_settled size old mid new (keeps_on old front mid first.nature second.written.nature) outside (λ h. second.leaves (first.nature.honest.0 h))
     (begun_bytes c.args.kind c.args.identity old.size)
-    (in_front c.args.kind c.args.identity old.size c.requires.room 0 (omega arith) ∙ gate_in c.args.kind c.args.identity)
-    (in_front c.args.kind c.args.identity old.size c.requires.room 1 (omega arith) ∙ mark_in c.args.kind c.args.identity)
-    (in_front c.args.kind c.args.identity old.size c.requires.room 2 (omega arith) ∙ third_in c.args.kind c.args.identity)
-    (in_front c.args.kind c.args.identity old.size c.requires.room 15 (omega arith) ∙ length_in c.args.kind c.args.identity)
+    (begun_in_front c.args.kind c.args.identity (c.headers.ensures.length c.args.kind c.args.identity) old.size c.requires.room 0 (omega arith) ∙ gate_in c.args.kind c.args.identity)
+    (begun_in_front c.args.kind c.args.identity (c.headers.ensures.length c.args.kind c.args.identity) old.size c.requires.room 1 (omega arith) ∙ mark_in c.args.kind c.args.identity)
+    (begun_in_front c.args.kind c.args.identity (c.headers.ensures.length c.args.kind c.args.identity) old.size c.requires.room 2 (omega arith) ∙ third_in c.args.kind c.args.identity)
+    (begun_in_front c.args.kind c.args.identity (c.headers.ensures.length c.args.kind c.args.identity) old.size c.requires.room 15 (omega arith) ∙ length_in c.args.kind c.args.identity)
     rest c.settle_head.ensures.in_turn

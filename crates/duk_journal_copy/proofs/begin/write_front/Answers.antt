@@ -2,7 +2,7 @@ use Rattle.std.proofs.Common.{◌≡◌, ◌∙◌, ◌-◌, ℕ, List, ap, arit
 use Rattle.std.proofs.lemmas.Slice.{between_to_end}
 use Rattle.duk_journal.specs.Header.{header_of}
 use Rattle.duk_store.specs.Disk.{written}
-use Rattle.duk_journal_copy.proofs.HeaderBytes.{header_length, length_in, low_length}
+use Rattle.duk_journal_copy.proofs.HeaderBytes.{length_in, low_length}
 use Rattle.duk_journal_copy.proofs.Results.{on_both}
 use Rattle.duk_journal_copy.proofs.WrittenDisks.{byte_outside, byte_then, byte_within, keeps_on, outside_then, outside_wider}
 use Rattle.duk_journal_copy.proofs.WrittenLists.{header_written}
@@ -28,7 +28,7 @@ returns-clause-written g c =
           wrote h2
           ∙ ap (λ (l : List ℕ). written next.reads 16 l) (between_to_end bytes 16 (length bytes) (omega arith) ∙ ap (drop 16) is)
           ∙ ap (λ (l : List ℕ). written l 16 (drop 16 header)) (c.in_ok-write_at.ensures.written h1 ∙ ap (λ (l : List ℕ). written marked.reads 2 (take 13 (drop 2 l))) is)
-          ∙ header_written old.reads marked.reads header (omega (arith, long, c.requires.room)) (header_length c.args.kind c.args.identity)
+          ∙ header_written old.reads marked.reads header (omega (arith, long, c.requires.room)) (c.headers.ensures.length c.args.kind c.args.identity)
           (settled.others h) (settled.is h ∙ sym (length_in c.args.kind c.args.identity));
     })
     c.write_at-2.ensures.written c.write_at-2.ensures.no_failure
@@ -52,7 +52,7 @@ returns-in_err-write_at-clause-outside g c =
     let next = g.D.Disk.meaning.state_of c.write_at.new.self in
     let bytes : List ℕ = c.as_slice-bytes.result.now in
     let low : List ℕ = take 13 (drop 2 bytes) in
-    let low_long : length low ≡ 13 = low_length c.args.kind c.args.identity bytes (c.as_slice-bytes.ensures.value ∙ c.file_header-header.ensures.bytes) in
+    let low_long : length low ≡ 13 = low_length bytes (ap length (c.as_slice-bytes.ensures.value ∙ c.file_header-header.ensures.bytes) ∙ c.headers.ensures.length c.args.kind c.args.identity) in
     outside_then 2 32 old marked next c.settle_byte.ensures.nature
     (outside_wider 2 32 15 1 old marked (omega arith) (omega arith) c.settle_byte.ensures.torn)
     (outside_wider 2 32 2 (length low) marked next (omega arith) (omega (arith, low_long)) c.write_at.ensures.torn)
@@ -64,7 +64,7 @@ returns-in_err-write_at-clause-stays g c right =
     let next = g.D.Disk.meaning.state_of c.write_at.new.self in
     let bytes : List ℕ = c.as_slice-bytes.result.now in
     let low : List ℕ = take 13 (drop 2 bytes) in
-    let low_long : length low ≡ 13 = low_length c.args.kind c.args.identity bytes (c.as_slice-bytes.ensures.value ∙ c.file_header-header.ensures.bytes) in
+    let low_long : length low ≡ 13 = low_length bytes (ap length (c.as_slice-bytes.ensures.value ∙ c.file_header-header.ensures.bytes) ∙ c.headers.ensures.length c.args.kind c.args.identity) in
     byte_then 15 old marked next c.settle_byte.ensures.nature (byte_within 15 old marked (c.settle_byte.ensures.stays right))
     (byte_outside 15 2 (length low) marked next (inr (omega (arith, low_long))) c.write_at.ensures.torn)
 
@@ -78,9 +78,9 @@ returns-clause-outside g c =
     let low : List ℕ = take 13 (drop 2 bytes) in
     let high : List ℕ = take (length bytes - 16) (drop 16 bytes) in
     let is : bytes ≡ header_of c.args.kind c.args.identity = c.as_slice-bytes.ensures.value ∙ c.file_header-header.ensures.bytes in
-    let low_long : length low ≡ 13 = low_length c.args.kind c.args.identity bytes is in
+    let low_long : length low ≡ 13 = low_length bytes (ap length is ∙ c.headers.ensures.length c.args.kind c.args.identity) in
     let high_long : length high ≡ 16 =
-    ap length (between_to_end bytes 16 (length bytes) (omega arith)) ∙ length-drop 16 bytes ∙ omega (arith, ap length is, header_length c.args.kind c.args.identity) in
+    ap length (between_to_end bytes 16 (length bytes) (omega arith)) ∙ length-drop 16 bytes ∙ omega (arith, ap length is, c.headers.ensures.length c.args.kind c.args.identity) in
     outside_then 2 32 old next new (keeps_on old marked next c.settle_byte.ensures.nature c.write_at.ensures.nature)
     (outside_then 2 32 old marked next c.settle_byte.ensures.nature
     (outside_wider 2 32 15 1 old marked (omega arith) (omega arith) c.settle_byte.ensures.torn)
@@ -96,7 +96,7 @@ returns-clause-stays g c right =
     let bytes : List ℕ = c.as_slice-bytes.result.now in
     let low : List ℕ = take 13 (drop 2 bytes) in
     let high : List ℕ = take (length bytes - 16) (drop 16 bytes) in
-    let low_long : length low ≡ 13 = low_length c.args.kind c.args.identity bytes (c.as_slice-bytes.ensures.value ∙ c.file_header-header.ensures.bytes) in
+    let low_long : length low ≡ 13 = low_length bytes (ap length (c.as_slice-bytes.ensures.value ∙ c.file_header-header.ensures.bytes) ∙ c.headers.ensures.length c.args.kind c.args.identity) in
     byte_then 15 old next new (keeps_on old marked next c.settle_byte.ensures.nature c.write_at.ensures.nature)
     (byte_then 15 old marked next c.settle_byte.ensures.nature (byte_within 15 old marked (c.settle_byte.ensures.stays right))
     (byte_outside 15 2 (length low) marked next (inr (omega (arith, low_long))) c.write_at.ensures.torn))

@@ -1,7 +1,6 @@
 use Rattle.std.proofs.Common.{◌≡◌, ◌∙◌, ◌+◌, ◌*◌, ◌-◌, ◌≤◌, ℕ, arith, drop, length, length-drop, subst, take}
 use Rattle.std.proofs.lemmas.List.{length-append, length-take-le}
 use Rattle.std.proofs.lemmas.Result.{err_from_is_err_and}
-use Rattle.duk_journal_copy.specs.Version.{format_of}
 use Rattle.duk_journal_copy.specs.inner.Copy.{AreRecordsCopied}
 use Rattle.duk_journal_copy.proofs.CopiedRecords.{none_on, piece_not, piece_on}
 use Rattle.duk_journal_copy.proofs.WrittenDisks.{outside_none, outside_then, outside_wider}

@@ -1,9 +1,10 @@
-use Rattle.std.proofs.Common.{◌≡◌, ◌∙◌, ◌+◌, ◌*◌, ◌-◌, ◌≤◌, ℕ, ap, arith, length, replicate, sym}
+use Rattle.std.proofs.Common.{◌≡◌, ◌∙◌, ◌+◌, ◌*◌, ◌-◌, ℕ, ap, arith, length, replicate, sym}
 use Rattle.std.proofs.lemmas.Result.{err_from_is_err_and}
+use Rattle.duk_journal.specs.Header.{journal_kind}
 use Rattle.duk_store.specs.Disk.{written}
 use Rattle.duk_journal_copy.proofs.CopiedRecords.{front_not, later_not}
 use Rattle.duk_journal_copy.proofs.Results.{where_ok}
-use Rattle.duk_journal_copy.proofs.WholeBytes.{rest_of_journal}
+use Rattle.duk_journal_copy.proofs.WholeBytes.{rest_of_file}
 use Rattle.duk_journal_copy.proofs.WrittenDisks.{keeps_on, outside_then, outside_wider}
 use Rattle.duk_journal_copy.proofs.copy.copy_rest.Goals as goal
 
@@ -48,7 +49,7 @@ returns-in-Ok-clause-copied g c =
             got.0,
             many,
             λ h place less. got.2 h place (omega (arith, less)),
-            rest_of_journal c.args.identity got.0 count new.size many c.requires.room new.reads front.reads mid.reads last.reads long (first.front k) got.3
+            rest_of_file journal_kind c.args.identity (c.headers.ensures.length journal_kind c.args.identity) got.0 count new.size many c.requires.room new.reads front.reads mid.reads last.reads long (first.front k) got.3
                 (behind.written.zeros mid_honest ∙ ap (λ (n : ℕ). written mid.reads (32 * (1 + count)) (replicate (n - 32 * (1 + count)) 0)) size_is),
           );
       leaves = λ k. behind.leaves (copied.nature.honest.0 (first.nature.honest.0 k));

@@ -1,5 +1,5 @@
-use Rattle.std.proofs.Common.{◌∙◌}
 use Rattle.std.proofs.lemmas.Result.{err_from_is_err_and}
+use Rattle.duk_journal.specs.Header.{journal_kind}
 use Rattle.duk_journal_copy.proofs.Copied.{both_copied, copied_in_part, why_not}
 use Rattle.duk_journal_copy.proofs.InPart.{in_part_behind}
 use Rattle.duk_journal_copy.proofs.WrittenDisks.{outside_none}
@@ -26,6 +26,7 @@ returns-in_err-copy_rest-clause-in_part g c =
 pub returns-in-Ok-settle_head-clause-copied : goal.returns-in-Ok-settle_head-clause-copied
 returns-in-Ok-settle_head-clause-copied g c =
     both_copied c.one_list.ensures c.args.kept c.laws.ensures c.args.identity c.in-Ok.own c.ranges.identity.fits
+    (c.headers.ensures.length journal_kind c.args.identity) (c.headers.ensures.identity journal_kind c.args.identity c.ranges.identity.fits)
     (g.D.Disk.meaning.state_of c.args.old.now) (g.D.Disk.meaning.state_of c.read_identity.new.disk) (g.D.Disk.meaning.state_of c.copy_rest.new.old)
     (g.E.Disk.meaning.state_of c.args.new.now) (g.E.Disk.meaning.state_of c.copy_rest.new.new) (g.E.Disk.meaning.state_of c.settle_head.new.disk)
     c.requires.room c.read_identity.ensures.nature c.read_identity.ensures.bytes c.in-Ok.ensures.identity c.in_ok-copy_rest.ensures.copied c.in-Ok-settle_head.ensures.settled
@@ -33,6 +34,7 @@ returns-in-Ok-settle_head-clause-copied g c =
 pub returns-in-Ok-settle_head-clause-in_part : goal.returns-in-Ok-settle_head-clause-in_part
 returns-in-Ok-settle_head-clause-in_part g c = λ h entries keeps counted.
     copied_in_part c.one_list.ensures c.args.kept c.laws.ensures c.args.identity c.in-Ok.own c.ranges.identity.fits
+    (c.headers.ensures.length journal_kind c.args.identity) (c.headers.ensures.identity journal_kind c.args.identity c.ranges.identity.fits)
     (g.D.Disk.meaning.state_of c.args.old.now) (g.D.Disk.meaning.state_of c.read_identity.new.disk) (g.D.Disk.meaning.state_of c.copy_rest.new.old)
     (g.E.Disk.meaning.state_of c.args.new.now) (g.E.Disk.meaning.state_of c.copy_rest.new.new) (g.E.Disk.meaning.state_of c.settle_head.new.disk)
     c.requires.room c.read_identity.ensures.nature c.read_identity.ensures.bytes c.in-Ok.ensures.identity c.in_ok-copy_rest.ensures.copied
@@ -41,6 +43,7 @@ returns-in-Ok-settle_head-clause-in_part g c = λ h entries keeps counted.
 pub returns-in-Err-clause-in_part : goal.returns-in-Err-clause-in_part
 returns-in-Err-clause-in_part g c = λ h entries keeps counted.
     copied_in_part c.one_list.ensures c.args.kept c.laws.ensures c.args.identity c.in-Ok.own c.ranges.identity.fits
+    (c.headers.ensures.length journal_kind c.args.identity) (c.headers.ensures.identity journal_kind c.args.identity c.ranges.identity.fits)
     (g.D.Disk.meaning.state_of c.args.old.now) (g.D.Disk.meaning.state_of c.read_identity.new.disk) (g.D.Disk.meaning.state_of c.copy_rest.new.old)
     (g.E.Disk.meaning.state_of c.args.new.now) (g.E.Disk.meaning.state_of c.copy_rest.new.new) (g.E.Disk.meaning.state_of c.settle_head.new.disk)
     c.requires.room c.read_identity.ensures.nature c.read_identity.ensures.bytes c.in-Ok.ensures.identity c.in_ok-copy_rest.ensures.copied

@@ -3,6 +3,6 @@ use Rattle.duk_journal_copy.proofs.laws.begun.Goals as goal
 
 pub returns : goal.returns
 returns c = record {
-  header = header_first;
-  closed = λ kind identity size later room past. begun_closed kind identity size room later past;
+  header = λ kind identity size room. header_first kind identity (c.headers.ensures.length kind identity) size room;
+  closed = λ kind identity size later room past. begun_closed kind identity (c.headers.ensures.length kind identity) size room later past;
 }

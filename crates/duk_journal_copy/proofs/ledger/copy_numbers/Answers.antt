@@ -6,7 +6,7 @@ use Rattle.duk_store.specs.Records.{after_gate}
 use Rattle.duk_store.specs.declared.log_format.LogFormat.{LogFormat}
 use Rattle.duk_journal_copy.proofs.LedgerRecords.{counted_number, log_stays_none, log_stays_then, number_on, numbers_none}
 use Rattle.duk_journal_copy.proofs.Results.{where_ok}
-use Rattle.duk_journal_copy.proofs.WrittenDisks.{outside_none, outside_then, outside_wider}
+use Rattle.duk_journal_copy.proofs.WrittenDisks.{bytes_none, bytes_then, outside_none, outside_then, outside_wider}
 use Rattle.duk_journal_copy.proofs.ledger.copy_numbers.Goals as goal
 
 pub loop-place-init : goal.loop-place-init
@@ -18,6 +18,7 @@ loop-place-init g c =
       running = c.requires.running;
       counted = sym c.requires.count;
       stays = log_stays_none (log.state_of c.args.old.now);
+      bytes = bytes_none (g.D.Disk.meaning.state_of c.args.old.now.disk);
       so_far = numbers_none c.args.identity (log.state_of c.args.old.now) new (λ k.
           let long : length new.reads ≡ new.size = g.E.Disk.leaves_its_size c.args.new.now k new.reads (g.E.Disk.reads_may_stay c.args.new.now k) in
           omega (arith, long, c.requires.room));
@@ -44,6 +45,8 @@ loop-place-preserved g c =
       running = read.stays.running ∙ i.running;
       counted = where_ok _ c.read_record.result (sym c.if-is_err.ensures.value) c.read_record.ensures.counted ∙ i.counted;
       stays = log_stays_then old old' old'' i.stays read.stays;
+      bytes = bytes_then (g.D.Disk.meaning.state_of c.args.old.now.disk) (g.D.Disk.meaning.state_of c.loop-place.old.disk) (g.D.Disk.meaning.state_of c.read_record.new.self.disk)
+          i.bytes c.read_record.ensures.bytes;
       so_far = number_on old old' i.stays 0 (0 + place) place c.read_record.new.bytes read.says_it c.in-Some.issued c.in-Some.ensures.issue new new' new'' c.args.identity count
           (λ k. g.E.Disk.leaves_its_size c.args.new.now k new.reads (g.E.Disk.reads_may_stay c.args.new.now k))
           c.requires.room c.loop-place-test.true i.so_far wrote;

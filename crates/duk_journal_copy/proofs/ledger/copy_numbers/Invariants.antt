@@ -1,6 +1,7 @@
 use Rattle.std.proofs.Common.{◌≡◌, ◌≤◌, ◌+◌, ◌*◌, ◌-◌, true}
 use Rattle.duk_journal_copy.specs.inner.Blank.{LeavesOutside}
 use Rattle.duk_journal_copy.specs.inner.Ledger.{AreNumbersCopied}
+use Rattle.duk_store.specs.Disk.{PreservesBytes}
 use Rattle.duk_store.specs.DiskRecords.{are_running, count_in, records_meaning}
 use Rattle.duk_store.specs.LogFormat.{log_format}
 use Rattle.duk_store.specs.declared.log_format.LogFormat.{LogFormat}
@@ -15,6 +16,7 @@ invariant-loop-place g l =
       running : are_running l.old.kept ≡ true;
       counted : count_in l.old.kept ≡ l.count;
       stays : Stays (log.state_of l.fn.old) (log.state_of l.old);
+      bytes : PreservesBytes (g.D.Disk.meaning.state_of l.fn.old.disk) (g.D.Disk.meaning.state_of l.old.disk);
       so_far : AreNumbersCopied l.identity l.place (log.state_of l.fn.old) (g.E.Disk.meaning.state_of l.fn.new) (g.E.Disk.meaning.state_of l.new);
       outside : LeavesOutside 32 (32 * (1 + l.count)) (g.E.Disk.meaning.state_of l.fn.new) (g.E.Disk.meaning.state_of l.new);
     }
