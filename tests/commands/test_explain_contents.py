@@ -15,6 +15,7 @@ from ..support.commands.shown import journal_ended
 from ..support.formats import journal_records, ledger_file, left_files
 from ..support.formats.checked_journal import HEADER, blank, checked, journal_of
 from ..support.formats.bank import BANK, BDK, CARD, FRONT
+from ..support.formats.ledger_file import Kept, Made
 from ..support.formats.left_files import Records
 from ..support.formats.log_file import RECORD, log_image, record
 from ..support.models.model_journal import payments_of_all
@@ -27,7 +28,7 @@ from .test_show import Damaged
 A_GOOD_LOG = "a log as it was kept, on a device that works"
 A_GOOD_JOURNAL = "a journal as it was kept, on a device that works"
 A_GOOD_LEDGER = "a ledger as it was kept"
-A_GOOD_OLD_LEDGER = "a ledger as it was kept, on a device that works"
+A_GOOD_OLD_LEDGER = "a ledger of version 1 as it was kept, on a device that works"
 MAKERS = {"log": "new-log", "journal": "new-journal", "ledger": "new-ledger"}
 
 
@@ -44,10 +45,11 @@ def first_counted(numbers: Sequence[int]) -> Optional[int]:
 
 def strange(form: Records, image: bytes, called: str, wanted: str) -> Optional[str]:
     """What is told of the file `it` that is empty, or whose whole records no such store leaves."""
-    if not image:
-        return (f"{called} it: empty; wanted: {wanted}; make it by dukpt {MAKERS[called]} FILE "
-                "RECORDS")
     is_old = form is left_files.OLD_LEDGER
+    if not image:
+        # A ledger that is copied is not to be made anew.
+        way = "" if is_old else f"; make it by dukpt {MAKERS[called]} FILE RECORDS"
+        return f"{called} it: empty; wanted: {wanted}{way}"
     is_other = is_old and not form.is_front(image[: form.size])
     # A ledger is looked at as one of version 2 first, whose records are longer.
     whole = left_files.LEDGER.size if is_old else form.size
@@ -256,10 +258,15 @@ class Ledgers(ExplainCase):
         line = (f"IKSN: {second} stands in the ledger; wanted: numbers that do not; --skip-issued "
                 "passes over them")
         self.explained([*ISSUE[:4], "3", "--ledger", "it"], f"{second}: issued", line)
-        line = "ledger it: too little room; wanted: 32 bytes of zeros for each number"
+        line = ("ledger it: too little room, or the largest run is 4294967295; wanted: 32 bytes of zeros "
+                "for each number, and a largest run below 4294967295")
         words = [*ISSUE[:4], "3", "--ledger", "it", "--skip-issued"]
         self.explained(words, "ledger: full", line)
         self.assertEqual((self.home / "it").read_bytes(), image)
+        of_last_run = Kept(bytes.fromhex(FIRST), Made(bytes(3), bytes(3), ledger_file.MOST_RUN))
+        self.write("of_last_run", ledger_file.ledger_image([of_last_run], 5))
+        words = [*ISSUE[:4], "2", "--ledger", "of_last_run", "--skip-issued"]
+        self.explained(words, "ledger: full", line.replace(" it:", " of_last_run:"))
         ended = self.run_with([*ISSUE[:4], "2", "--ledger", "it", "--skip-issued", EXPLAIN])
         self.assertEqual((ended.status, ended.faults, ended.output.count(b"\n")), (0, b"passed over 1\n", 1))
 

@@ -13,8 +13,8 @@ from typing import Sequence
 from ..support.commands.everyday_rows import BASE, FIRST, RIGHT, SERIAL
 from ..support.commands.explain_case import EXPLAIN, ISSUE, SCRIPT, WITHOUT_RIGHTS, ExplainCase
 from ..support.commands.explained import (
-    A_FOLDER, A_JOURNAL, A_LEDGER, A_LOG, A_NEW_FILE, IN_USE, MISSING, MOST_PATH, NO_FOLDER,
-    NO_PERMISSION, OTHER, READABLE, READ_BEFORE, THERE, told_path)
+    A_FOLDER, A_JOURNAL, A_LEDGER, A_LOG, A_NEW_FILE, AN_OLD_LEDGER, IN_USE, MISSING, MOST_PATH,
+    NO_FOLDER, NO_PERMISSION, OTHER, READABLE, READ_BEFORE, THERE, told_path)
 from ..support.formats.bank import BANK, LONGEST
 from ..support.formats.checked_journal import HEADER, blank, journal_of
 from ..support.formats.journal_records import RECORD as JOURNAL_RECORD
@@ -141,6 +141,16 @@ class Refused(ExplainCase):
             self.refused_lock("log", IN_USE)
         self.assertEqual((self.home / "log").read_bytes(), image)
         self.assertEqual(self.run_with(["serve", "bank.toml", "--log", "log", EXPLAIN]), Ended(0, b"", b""))
+
+    def test_a_ledger_that_is_copied(self) -> None:
+        """It is one of version 1, and is only read."""
+        self.write("it", log_image([], 3))
+        with open(self.home / "it", "rb") as other:
+            fcntl.flock(other, fcntl.LOCK_EX)
+            for name, reason in (("missing", MISSING), ("logs", A_FOLDER), ("it", IN_USE)):
+                line = f"ledger {name}: {reason}; wanted: {AN_OLD_LEDGER}"
+                self.explained(["copy-ledger", name, "new"], "ledger: cannot open", line)
+        self.assertFalse((self.home / "new").exists())
 
     def test_in_use_by_a_service(self) -> None:
         """It goes on, and its log is as it has to be."""

@@ -36,6 +36,7 @@ READABLE = "a file that can be read"
 A_LOG = "a log, as new-log makes one, that no other uses"
 A_JOURNAL = "a journal, as new-journal makes one, that no other uses"
 A_LEDGER = "a ledger, as new-ledger makes one, that no other uses"
+AN_OLD_LEDGER = "a ledger of version 1 that no other uses"
 A_NEW_FILE = "a name that no file has, in a folder with room"
 BEFORE_16 = "write FFFF before it"
 COUNTER_BITS = 21
@@ -308,7 +309,9 @@ CONSTANT = {
                                    "a journal as it was kept, on a device that works"),
     "ledger: failed": Explanation("ledger", "a step of its device failed", "a device that works",
                                   "the next number may stand in it"),
-    "ledger: full": Explanation("ledger", "too little room", "32 bytes of zeros for each number"),
+    "ledger: full": Explanation(
+        "ledger", "too little room, or the largest run is 4294967295",
+        "32 bytes of zeros for each number, and a largest run below 4294967295"),
     "ledger: version 1, use copy-ledger": Explanation(
         "ledger", "version 1", "one of version 2; make it by dukpt copy-ledger OLD NEW"),
     "ledger: version 2 already": Explanation("ledger", "version 2", "one of version 1",

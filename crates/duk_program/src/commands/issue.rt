@@ -374,6 +374,6 @@ Faults, on standard error with status 1, the first alone; --explain says more:
   out: cannot make  There is such a file, or none can be made
   IKSN: issued      The first of the numbers that the ledger has already
   IKSN: not issued  The first of the numbers that it does not have, with --again
-  ledger: full      The ledger has no room for all that are to be issued
+  ledger: full      It has no room for all that are to be issued, or its largest run is 4294967295
   write failed      Standard output, or the file of --out, takes no more
   out of memory     Memory was refused";

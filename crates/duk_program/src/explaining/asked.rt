@@ -145,13 +145,21 @@ fn wrong_records<S: FileSystem + LogFiles>(
     format: RecordFormat,
 ) -> Option<Found> {
     match strange_in(files, path, format) {
-        Some(Strange::Empty) => Some(Found::Empty(format)),
+        Some(Strange::Empty) => Some(empty(about, format)),
         Some(Strange::Record(place)) => Some(Found::Foreign(place)),
         None if has_form_of_log(about, format) => {
             let log = files.read_again(alloc, path, LONGEST_LOG)?;
             wrong_record_in(alloc, about, log.as_slice()).map(Found::Record)
         }
         None => None,
+    }
+}
+
+/// What an empty file is. A ledger that is copied is not to be made anew.
+fn empty(about: &Request<'_>, format: RecordFormat) -> Found {
+    match (format, about.command()) {
+        (RecordFormat::Ledger, CommandName::CopyLedger) => Found::Words("empty"),
+        _ => Found::Empty(format),
     }
 }
 

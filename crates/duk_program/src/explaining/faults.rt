@@ -64,7 +64,9 @@ pub(crate) fn of_fault(about: About<'_, '_>, why: &Fault) -> Seen {
         Fault::CopyJournal(CopyJournalFault::Failed) => failed("OLD", RecordFormat::Journal),
         Fault::CopyJournal(CopyJournalFault::Unmade) => unmade("NEW", "journal"),
         Fault::CopyLedger(CopyLedgerFault::Unopened) => {
-            unopened("OLD", "ledger", RecordFormat::Ledger)
+            unopened("OLD", "ledger", RecordFormat::Ledger).wanted(
+                "a ledger of version 1 that no other uses",
+            )
         }
         Fault::CopyLedger(CopyLedgerFault::NewVersion) => new_version("OLD"),
         Fault::CopyLedger(CopyLedgerFault::Failed) => failed("OLD", RecordFormat::Ledger),
@@ -288,7 +290,10 @@ fn of_issue(about: About<'_, '_>, why: IssueFault) -> Seen {
             .wanted("numbers that do; without --again it is issued")
         }
         IssueFault::LedgerFull => {
-            ledger(Found::Words("too little room")).wanted("32 bytes of zeros for each number")
+            ledger(Found::Words(
+                "too little room, or the largest run is 4294967295",
+            ))
+            .wanted("32 bytes of zeros for each number, and a largest run below 4294967295")
         }
         IssueFault::OutOfMemory => memory(),
         IssueFault::WriteFailed => output().of(File::Under("out")),

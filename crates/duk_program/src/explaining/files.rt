@@ -122,7 +122,7 @@ pub(crate) fn failed(argument: &'static str, format: RecordFormat) -> Seen {
     under(argument, name_of(format), found).wanted(match format {
         RecordFormat::Log => "a log as it was kept, on a device that works",
         RecordFormat::Journal => "a journal as it was kept, on a device that works",
-        RecordFormat::Ledger => "a ledger as it was kept, on a device that works",
+        RecordFormat::Ledger => "a ledger of version 1 as it was kept, on a device that works",
     })
 }
 
