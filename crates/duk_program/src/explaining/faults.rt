@@ -290,10 +290,9 @@ fn of_issue(about: About<'_, '_>, why: IssueFault) -> Seen {
             .wanted("numbers that do; without --again it is issued")
         }
         IssueFault::LedgerFull => {
-            ledger(Found::Words(
-                "too little room, or the largest run is 4294967295",
-            ))
-            .wanted("32 bytes of zeros for each number, and a largest run below 4294967295")
+            ledger(Found::Words("too little room, or the largest run is 4294967295")).wanted(
+                "32 bytes of zeros for each number, and a largest run below 4294967295",
+            )
         }
         IssueFault::OutOfMemory => memory(),
         IssueFault::WriteFailed => output().of(File::Under("out")),
