@@ -28,11 +28,12 @@ from ..support.quick import QuickRuns
 from ..support.service.client import payments
 from ..support.service.service import Service
 from ..support.standards.dukpt import SPENT, serial_text
+from ..support.system.little_memory import least_to_start
 from ..support.system.small_files import PAGE, SmallFiles
 from ..support.system.traced_files import (
     OPENS, READS, REMOVES, SYNCS, WRITES, Call, assert_kept, covered, places, traced)
 from ..support.system.unsynced import unsynced_of
-from .test_little_memory import MemoryCase
+from .test_little_memory import NEAR, MemoryCase
 from .test_progress import PROGRESS, faults_of, told
 
 CANNOT_OPEN, CANNOT_MAKE = "ledger: cannot open", "ledger: cannot make"
@@ -129,7 +130,8 @@ class Copied(CopyCase):
         """Ledgers that keep nothing, that are full, and of a piece of 64 KiB of either file and
         about."""
         for count, room in ((0, 1), (0, 5000), (1, 1), (3, 3), (2047, 2047), (2047, 2048),
-                            (2048, 2050), (2049, 5000), (4095, 4096), (4096, 4096), (4097, 4097)):
+                            (2048, 2050), (2049, 5000), (4095, 4096), (4096, 4096), (4097, 4097),
+                            (35_000, 40_000)):
             self.check_copy(old_ledger(numbers_up_to(count), room), f"{count} of {room}")
 
     def test_drawn(self) -> None:
@@ -401,6 +403,14 @@ class Memory(MemoryCase):
 
     def test_a_copy(self) -> None:
         self.assertEqual(set(self.try_sizes(("copy-ledger", OLD, COPY), b"", 20)), {0})
+
+    def test_a_large_copy(self) -> None:
+        """It takes no more memory than a small one."""
+        words = ("copy-ledger", OLD, COPY)
+        enough, _ = self.enough(words, b"", least_to_start(self.program))
+        self.image = old_ledger(numbers_up_to(35_000), 40_000)
+        self.write(OLD, self.image)
+        self.assertIsNone(self.try_size(words, b"", enough + NEAR), "a large copy takes more memory")
 
 
 class CallCase(CopyCase):

@@ -4,7 +4,7 @@ from __future__ import annotations
 from typing import Optional, Sequence
 
 from ..support.commands.everyday_rows import BASE
-from ..support.commands.issuing import Ledger, numbers_from
+from ..support.commands.issuing import MOST_COUNT, Ledger, numbers_from
 from ..support.commands.shown import journal_ended, log_ended
 from ..support.formats.bank import BANK, LONGEST, BankCase
 from ..support.formats.images import log_disk
@@ -51,7 +51,17 @@ class MemoryCase(BankCase):
     def try_sizes(self, words: Sequence[Word], output: bytes, tries: int) -> list[int]:
         """Looks for the least size that is enough, and tries sizes below and about it. What was
         written before memory was refused, each time."""
-        least = refused = least_to_start(self.program)
+        least = least_to_start(self.program)
+        ample, told = self.enough(words, output, least)
+        for _ in range(tries * self.times):
+            written = self.try_size(words, output, self.chance.randrange(least, ample + 8 * NEAR))
+            told += [] if written is None else [written]
+        self.tells(f"{words[0]}: out of memory {len(told)} times, "
+                   f"{least >> 10} to {ample >> 10} KiB")
+        return told
+
+    def enough(self, words: Sequence[Word], output: bytes, refused: int) -> tuple[int, list[int]]:
+        """A size that is enough and near to the least one, and what was written with each that was not."""
         ample, told = AMPLE, []
         self.assertIsNone(self.try_size(words, output, ample), "refused with ample memory")
         while ample - refused > NEAR:
@@ -59,12 +69,7 @@ class MemoryCase(BankCase):
             written = self.try_size(words, output, memory)
             refused, ample = (refused, memory) if written is None else (memory, ample)
             told += [] if written is None else [written]
-        for _ in range(tries * self.times):
-            written = self.try_size(words, output, self.chance.randrange(least, ample + 8 * NEAR))
-            told += [] if written is None else [written]
-        self.tells(f"{words[0]}: out of memory {len(told)} times, "
-                   f"{least >> 10} to {ample >> 10} KiB")
-        return told
+        return ample, told
 
 
 class LittleMemory(MemoryCase):
@@ -209,27 +214,49 @@ class JournalMemory(MemoryCase):
 class LedgerMemory(MemoryCase):
     """A ledger is shown, and a new one is whole, or nothing is left of it."""
 
-    is_making = False
+    # The room of the one that is made, if one is.
+    room: Optional[int] = None
 
     def behind(self, is_done: bool, what: str) -> None:
         made = self.home / "made"
-        if is_done and self.is_making:
+        if is_done and self.room is not None:
             image = made.read_bytes()
-            self.assertEqual(image, ledger_image([], 3000, identity_of(image) or 0), what)
+            is_right = image == ledger_image([], self.room, identity_of(image) or 0)
+            self.assertTrue(is_right, f"{what}: another ledger")
             made.unlink()
         self.assertFalse(made.exists(), what)
 
     def test_a_shown_ledger(self) -> None:
-        """All of it is printed, or nothing."""
-        data = Ledger(20_001, numbers_from(0, 20_000)).image
-        self.write("ledger", data)
-        told = self.try_sizes(("show", "ledger", "ledger"), shown_ledger(data).encode(), 20)
-        self.assertEqual(set(told), {0})
+        """All of it is printed, or nothing; of a large one too."""
+        for count in (20_000, 70_000):
+            data = Ledger(count + 1, numbers_from(0, count)).image
+            self.write("ledger", data)
+            told = self.try_sizes(("show", "ledger", "ledger"), shown_ledger(data).encode(), 20)
+            self.assertEqual(set(told), {0})
 
     def test_a_new_ledger(self) -> None:
         """It takes the memory of a piece of zeros."""
-        self.is_making = True
+        self.room = 3000
         self.assertLessEqual(set(self.try_sizes(("new-ledger", "made", "3000"), b"", 20)), {0})
+
+    def test_room(self) -> None:
+        """Room for a whole key set takes no memory where a ledger is made or issued over. It is shown
+        whole, or not at all."""
+        least, numbers = least_to_start(self.program), numbers_from(0, 3)
+        over = ("issue", BASE, BASE, "0" * 20, "3", "--ledger", "ledger", "--skip-issued")
+        for name, note in (("new-ledger", b""), ("issue", b"passed over 3\n")):
+            self.note, enough = note, 0
+            for room in (3000, MOST_COUNT):
+                self.write("ledger", Ledger(room, numbers).image)
+                self.room = room if name == "new-ledger" else None
+                words = over if name == "issue" else (name, "made", str(room))
+                if not enough:
+                    enough, _ = self.enough(words, b"", least)
+                self.assertIsNone(self.try_size(words, b"", enough + NEAR), f"{name}: room takes memory")
+        self.note, data = b"", Ledger(MOST_COUNT, numbers).image
+        self.assertEqual((self.home / "ledger").read_bytes(), data)
+        told = self.try_sizes(("show", "ledger", "ledger"), shown_ledger(data).encode(), 5)
+        self.assertEqual(set(told), {0})
 
 
 class GrownJournalMemory(MemoryCase):

@@ -107,8 +107,8 @@ class TestShowLedger(ProgramCase):
 
     def test_room(self) -> None:
         """Behind what is kept closed records are room, and a large ledger has a line for each."""
-        kept = [Kept(it) for it in bytes_of(numbers_from(int(FIRST, 16), 5000))]
-        for count, room in ((0, 0), (0, 3), (5000, 5000), (4095, 5000)):
+        kept = [Kept(it) for it in bytes_of(numbers_from(int(FIRST, 16), 70_000))]
+        for count, room in ((0, 0), (0, 3), (5000, 5000), (4095, 5000), (70_000, 70_001)):
             self.assertFalse(self.assert_shown(ledger_image(kept[:count], room)))
         torn = bytes([2]) + self.chance.randbytes(RECORD - 1)
         self.assertFalse(self.assert_shown(ledger_image(kept[:2], 2) + torn + torn))
